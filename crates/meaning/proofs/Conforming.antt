@@ -1,0 +1,127 @@
+-- Consistent, sound and complete by the kinds of packets: packet by packet, case by case of the label. Assumes nothing.
+use mathlib.Core.Path.{_≡_, refl, sym, _∙_, ap, subst}
+use mathlib.Core.Logic.{_⊎_, inl, inr, ⊎-elim, _↔_}
+use mathlib.Core.List.{List}
+use Prim.Native.Nat.{ℕ}
+use native.Mathlib.Omega.{arith}
+use lib.Dec.{T}
+use Rattle.meaning.specs.Conformance.{Consistent, Matches, Sound, Complete}
+use Rattle.meaning.specs.Fields.{Packet, InRange}
+use Rattle.meaning.specs.Labels.{Label, kind, label}
+use Rattle.meaning.specs.Policies.{Policy, Asked}
+use Rattle.meaning.specs.Rules.{Action, accept, deny, opposite, same, Rule}
+use Rattle.meaning.specs.Verdicts.{None}
+use Rattle.meaning.proofs.Blame.{Blaming, Lacking, not-blaming, not-lacking}
+use Rattle.meaning.proofs.Labelled.{matches-once, Only, Neither, Case, is-conflict, is-wrong, is-unasked, is-unmet-accept, is-unmet-deny, is-done, is-let-be, label-cases}
+
+-- a packet has A and not B, or B and not A
+abbrev OneOf : Type 0 → Type 0 → Type 0
+OneOf A B = (A × ¬ B) ⊎ (¬ A × B)
+
+opposite-differs : (a : Action) → opposite a ≡ a → ⊥
+unfolding opposite same
+opposite-differs accept e = subst (λ (b : Action). T (same deny b)) e tt
+opposite-differs deny e = subst (λ (b : Action). T (same accept b)) e tt
+
+module _ (rules : List Rule) (policy : Policy) where
+  -- q's label has the kind k
+  abbrev pub OfKind : ℕ → Packet → Type 0
+  OfKind k q = kind (label rules policy q) ≡ k
+
+  module _ (q : Packet) where
+    abbrev Asks : Action → Type 0
+    Asks a = Asked policy a q
+
+    abbrev ConsistentAt : Type 0
+    ConsistentAt = Asks accept → ¬ Asks deny
+
+    abbrev SoundAt : Type 0
+    SoundAt = (i : ℕ) (r : Rule) → Matches rules q i r → Asks (r .action)
+
+    abbrev CompleteAt : Type 0
+    CompleteAt = (a : Action) → Asks a → (i : ℕ) × (r : Rule) × (r .action ≡ a) × Matches rules q i r
+
+    -- what Only and Neither say of any action
+    only-this : (a b : Action) → Only rules policy q a → Asks b → b ≡ a
+    unfolding opposite
+    only-this accept accept o t = refl
+    only-this accept deny o t = absurd (o .not-other t)
+    only-this deny accept o t = absurd (o .not-other t)
+    only-this deny deny o t = refl
+
+    not-both : (a : Action) → Only rules policy q a → ConsistentAt
+    unfolding opposite
+    not-both accept o t u = o .not-other u
+    not-both deny o t u = o .not-other t
+
+    neither-asked : (b : Action) → Neither rules policy q → ¬ Asks b
+    neither-asked accept n = n .no-accept
+    neither-asked deny n = n .no-deny
+
+    always-asked : (b : Action) → Asks accept → Asks deny → Asks b
+    always-asked accept t u = t
+    always-asked deny t u = u
+
+    not-opposite : (a b : Action) → b ≡ opposite a → b ≡ a → ⊥
+    not-opposite a b e f = opposite-differs a (sym e ∙ f)
+
+    by-conflict : Case rules policy q (label rules policy q) → OneOf ConsistentAt (OfKind 1 q)
+    unfolding kind
+    by-conflict (is-conflict e a d) = inr (λ c. c a d, ap kind e)
+    by-conflict (is-wrong a i r e o m u) = inl (not-both a o, λ z. omega (arith, ap kind e))
+    by-conflict (is-unasked i r e n m) = inl (λ t. absurd (n .no-accept t), λ z. omega (arith, ap kind e))
+    by-conflict (is-unmet-accept e o u) = inl (not-both accept o, λ z. omega (arith, ap kind e))
+    by-conflict (is-unmet-deny e o u) = inl (not-both deny o, λ z. omega (arith, ap kind e))
+    by-conflict (is-done a i r e o m u) = inl (not-both a o, λ z. omega (arith, ap kind e))
+    by-conflict (is-let-be e n u) = inl (λ t. absurd (n .no-accept t), λ z. omega (arith, ap kind e))
+
+    by-blame : Case rules policy q (label rules policy q) → OneOf SoundAt (Blaming (label rules policy q))
+    unfolding kind
+    by-blame (is-conflict e a d) = inl (λ i r m. always-asked (r .action) a d, not-blaming (label rules policy q) 1 (ap kind e) tt)
+    by-blame (is-wrong a i r e o m u) = inr (λ s. not-opposite a (r .action) u (only-this a (r .action) o (s i r m)), inl (ap kind e))
+    by-blame (is-unasked i r e n m) = inr (λ s. neither-asked (r .action) n (s i r m), inr (ap kind e))
+    by-blame (is-unmet-accept e o u) = inl (λ i r m. absurd (u i r m), not-blaming (label rules policy q) 4 (ap kind e) tt)
+    by-blame (is-unmet-deny e o u) = inl (λ i r m. absurd (u i r m), not-blaming (label rules policy q) 5 (ap kind e) tt)
+    by-blame (is-done a i r e o m u) =
+        inl (λ j s n. subst (λ (t : Rule). Asks (t .action)) (matches-once rules q i j r s m n .1) (subst Asks (sym u) (o .this)), not-blaming (label rules policy q) 0 (ap kind e) tt)
+    by-blame (is-let-be e n u) = inl (λ i r m. absurd (u i r m), not-blaming (label rules policy q) 0 (ap kind e) tt)
+
+    by-lack : ¬ OfKind 1 q → Case rules policy q (label rules policy q) → OneOf CompleteAt (Lacking (label rules policy q))
+    unfolding kind
+    by-lack h (is-conflict e a d) = absurd (h (ap kind e))
+    by-lack h (is-wrong a i r e o m u) =
+        inr (
+          λ c.
+              let w = c a (o .this) in
+              not-opposite a (r .action) u (ap (λ (t : Rule). t .action) (matches-once rules q i (w .0) r (w .1) m (w .3) .1) ∙ w .2),
+          inl (ap kind e),
+        )
+    by-lack h (is-unasked i r e n m) = inl (λ a t. absurd (neither-asked a n t), not-lacking (label rules policy q) 3 (ap kind e) tt)
+    by-lack h (is-unmet-accept e o u) = inr (λ c. let w = c accept (o .this) in u (w .0) (w .1) (w .3), inr (inl (ap kind e)))
+    by-lack h (is-unmet-deny e o u) = inr (λ c. let w = c deny (o .this) in u (w .0) (w .1) (w .3), inr (inr (ap kind e)))
+    by-lack h (is-done a i r e o m u) =
+        inl (λ b t. (i, r, u ∙ sym (only-this a b o t), m), not-lacking (label rules policy q) 0 (ap kind e) tt)
+    by-lack h (is-let-be e n u) = inl (λ a t. absurd (neither-asked a n t), not-lacking (label rules policy q) 0 (ap kind e) tt)
+
+  -- from each packet to all
+  has-not : {A B : Type 0} → OneOf A B → A → ¬ B
+  has-not (inl w) a = w .1
+  has-not (inr w) a = absurd (w .0 a)
+
+  has : {A B : Type 0} → OneOf A B → ¬ B → A
+  has (inl w) h = w .0
+  has (inr w) h = absurd (h (w .1))
+
+  pub consistent-iff-no-conflict : (ns : List ℕ) → Consistent ns policy ↔ None ns (OfKind 1)
+  consistent-iff-no-conflict ns =
+      (λ c q i. has-not (by-conflict q (label-cases rules policy q)) (c q i), λ h q i. has (by-conflict q (label-cases rules policy q)) (h q i))
+
+  -- consistent or not
+  pub sound-iff-no-wrong-or-unasked : (ns : List ℕ) → Sound ns rules policy ↔ None ns (λ q. OfKind 2 q ⊎ OfKind 3 q)
+  sound-iff-no-wrong-or-unasked ns =
+      (λ s q i. has-not (by-blame q (label-cases rules policy q)) (s q i), λ h q i. has (by-blame q (label-cases rules policy q)) (h q i))
+
+  pub complete-iff-no-wrong-or-unmet : (ns : List ℕ) → Consistent ns policy → Complete ns rules policy ↔ None ns (λ q. OfKind 2 q ⊎ OfKind 4 q ⊎ OfKind 5 q)
+  complete-iff-no-wrong-or-unmet ns c =
+      let at-peace = consistent-iff-no-conflict ns .0 c in
+      (λ s q i. has-not (by-lack q (at-peace q i) (label-cases rules policy q)) (s q i), λ h q i. has (by-lack q (at-peace q i) (label-cases rules policy q)) (h q i))

@@ -1,0 +1,122 @@
+-- Refusals, and number 14: which sets and packets of a caller's are in form.
+use mathlib.Core.Bool.{Bool, true, false, _&&_, cond}
+use mathlib.Core.List.{List, [], _∷_}
+use mathlib.Core.Option.{Option, none, some}
+use Prim.Native.Nat.{ℕ, suc}
+use lib.Dec.{leb, ltb, eqb}
+use lib.ListN.{take}
+use Rattle.meaning.specs.Blocks.{Block, inside}
+use Rattle.meaning.specs.Fields.{Packet}
+use Rattle.meaning.specs.Policies.{Directive, Policy}
+use Rattle.meaning.specs.Records.{numbered, all-of}
+use Rattle.meaning.specs.Rules.{Rule}
+
+pub record Refusal : Type 0 where
+  pub number : ℕ
+  pub line : ℕ
+  pub field : ℕ
+
+-- "A call not refused gives number, line and field 0."
+abbrev pub unrefused : Refusal
+unrefused = record { number = 0; line = 0; field = 0 }
+
+-- 14, with 1 for rules, 2 for a policy, 3 for a packet
+abbrev pub outOfForm : ℕ → Refusal
+outOfForm what = record { number = 14; line = what; field = 0 }
+
+-- the first of two refusals
+unfoldable pub orElse : Refusal → Refusal → Refusal
+orElse r s = cond (eqb (r .number) 0) s r
+
+-- "A count above its limit."
+abbrev pub mostRules : ℕ
+mostRules = 64
+
+abbrev pub mostDirectives : ℕ
+mostDirectives = 32
+
+abbrev pub mostExceptions : ℕ
+mostExceptions = 64
+
+-- Sets as a caller makes them: counts, and records of which those past the count are not looked at.
+pub record RuleSet : Type 0 where
+  pub count : ℕ
+  pub records : List Rule
+
+-- an exception names its directive by number, from 1
+pub record Exception : Type 0 where
+  pub directive : ℕ
+  pub block : Block
+
+-- a directive's record is its action and its block, as a rule's
+pub record PolicySet : Type 0 where
+  pub directive-count : ℕ
+  pub directives : List Rule
+  pub exception-count : ℕ
+  pub exceptions : List Exception
+
+abbrev pub table : RuleSet → List Rule
+table s = take (s .count) (s .records)
+
+-- The policy that a set stands for: each directive with the exceptions that name it.
+unfoldable pub naming : ℕ → List Exception → List Block
+naming n [] = []
+naming n (e ∷ es) = cond (eqb (e .directive) n) (e .block ∷ naming n es) (naming n es)
+
+unfoldable pub directivesFrom : ℕ → List Rule → List Exception → List Directive
+directivesFrom n [] es = []
+directivesFrom n (d ∷ ds) es = record { action = d .action; block = d .block; exceptions = naming n es } ∷ directivesFrom (suc n) ds es
+
+unfoldable pub policyOf : PolicySet → Policy
+policyOf s = record { directives = directivesFrom 1 (take (s .directive-count) (s .directives)) (take (s .exception-count) (s .exceptions)) }
+
+-- not "a low above its high, a number past its field's largest"
+unfoldable pub blockInForm : List ℕ → Block → Bool
+blockInForm [] [] = true
+blockInForm [] (s ∷ b) = false
+blockInForm (n ∷ ns) [] = false
+blockInForm (n ∷ ns) (s ∷ b) = leb (s .low) (s .high) && ltb (s .high) n && blockInForm ns b
+
+unfoldable pub rulesInForm : List ℕ → RuleSet → Bool
+rulesInForm ns s = leb (s .count) mostRules && all-of (λ (r : Rule). blockInForm ns (r .block)) (table s)
+
+-- not "an exception outside its directive, naming none"
+unfoldable pub insideOf : Option Rule → Block → Bool
+insideOf none b = false
+insideOf (some d) b = inside b (d .block)
+
+-- nor "naming a lower directive than the exception before it", which named `before`
+unfoldable pub exceptionsInForm : List ℕ → List Rule → ℕ → List Exception → Bool
+exceptionsInForm ns ds before [] = true
+exceptionsInForm ns ds before (e ∷ es) =
+    leb before (e .directive) && insideOf (numbered ds (e .directive)) (e .block) && blockInForm ns (e .block) && exceptionsInForm ns ds (e .directive) es
+
+unfoldable pub policyInForm : List ℕ → PolicySet → Bool
+policyInForm ns s =
+    leb (s .directive-count) mostDirectives
+    && leb (s .exception-count) mostExceptions
+    && all-of (λ (d : Rule). blockInForm ns (d .block)) (take (s .directive-count) (s .directives))
+    && exceptionsInForm ns (take (s .directive-count) (s .directives)) 0 (take (s .exception-count) (s .exceptions))
+
+-- "A packet to be labelled is out of form if a number is past its field's largest."
+unfoldable pub packetInForm : List ℕ → Packet → Bool
+packetInForm [] [] = true
+packetInForm [] (x ∷ p) = false
+packetInForm (n ∷ ns) [] = false
+packetInForm (n ∷ ns) (x ∷ p) = ltb x n && packetInForm ns p
+
+-- "Rules are looked at first, then the policy, then the packet."
+unfoldable pub refuseRules : List ℕ → RuleSet → Refusal
+refuseRules ns s = cond (rulesInForm ns s) unrefused (outOfForm 1)
+
+unfoldable pub refusePolicy : List ℕ → PolicySet → Refusal
+refusePolicy ns s = cond (policyInForm ns s) unrefused (outOfForm 2)
+
+unfoldable pub refusePacket : List ℕ → Packet → Refusal
+refusePacket ns p = cond (packetInForm ns p) unrefused (outOfForm 3)
+
+unfoldable pub refuseSets : List ℕ → RuleSet → PolicySet → Refusal
+refuseSets ns rules policy = orElse (refuseRules ns rules) (refusePolicy ns policy)
+
+unfoldable pub refuseLabel : List ℕ → RuleSet → PolicySet → Packet → Refusal
+refuseLabel ns rules policy p = orElse (refuseSets ns rules policy) (refusePacket ns p)

@@ -1,0 +1,28 @@
+-- Rules, and the rule that decides a packet.
+use mathlib.Core.Bool.{Bool, true, false}
+use mathlib.Core.List.{List}
+use Rattle.meaning.specs.Blocks.{Block, holds}
+use Rattle.meaning.specs.Fields.{Packet}
+use Rattle.meaning.specs.Records.{Found, first}
+
+pub data Action : Type 0 where
+  accept deny : Action
+
+unfoldable pub opposite : Action → Action
+opposite accept = deny
+opposite deny = accept
+
+unfoldable pub same : Action → Action → Bool
+same accept accept = true
+same accept deny = false
+same deny accept = false
+same deny deny = true
+
+-- "A rule is an action and a block."
+pub record Rule : Type 0 where
+  pub action : Action
+  pub block : Block
+
+-- "The deciding rule is the lowest-numbered rule whose block holds it."
+unfoldable pub deciding : List Rule → Packet → Found Rule
+deciding rules p = first (λ (r : Rule). holds (r .block) p) rules
