@@ -9,6 +9,7 @@ use native.Mathlib.Nat.{suc-mul, zero-mul, mul-comm, mul-le-mul, mul-le-mul-righ
 use lib.ListN.{length, length-append, length-map}
 use lib.Dec.{T}
 use Rattle.meaning.specs.Fields.{Packet}
+use Rattle.meaning.specs.Form.{mostRules, mostDirectives, mostExceptions}
 use Rattle.meaning.specs.Listings.{Listed, at, widen, Runs, no-more, run, Last, is-good, at-fault, Listing}
 use Rattle.meaning.specs.Records.{Every, every-none, every-more}
 use Rattle.meaning.specs.Strips.{Cut, strips, sizes, counts, ByCells, lift}
@@ -52,3 +53,8 @@ module _ {L : Type 0} (same : L → L → Bool) (same-iff : (a b : L) → T (sam
 
   pub listing-within-limits : (m : ℕ) (bs : List (Listed L)) → Every (λ n. n ≤ m) (counts cs) → Listing good (sizes cs) f bs → length bs ≤ m ^ length cs
   listing-within-limits m bs e a = omega (arith, listing-few-by-cells bs a, power m e, ap (λ (k : ℕ). m ^ k) (length-map cs strips))
+
+  -- Four fields, and sets within their limits: each block begins at one place and has just ended at another, and 0 is one more.
+  pub four-fields-few : (bs : List (Listed L)) → length cs ≡ 4 → Every (λ n. n ≤ 2 * (mostRules + mostDirectives + mostExceptions) + 1) (counts cs) → Listing good (sizes cs) f bs
+      → length bs ≤ 10_617_447_681
+  four-fields-few bs four e a = omega (arith, listing-within-limits 321 bs e a, ap (λ (k : ℕ). 321 ^ k) four)

@@ -1,24 +1,25 @@
 -- Document 01's examples: its twelve labels by one computed test, and its whole run at the real field sizes by cells. Assumes nothing.
-use mathlib.Core.Path.{_≡_, refl, sym, _∙_, ap, subst}
-use mathlib.Core.Bool.{Bool, true, false, cond}
+use mathlib.Core.Path.{_≡_, refl, ap, subst}
+use mathlib.Core.Bool.{_&&_}
 use mathlib.Core.List.{List, [], _∷_, map}
-use mathlib.Core.Option.{some}
 use Prim.Native.Nat.{ℕ, _^_}
 use native.Mathlib.Omega.{arith}
 use lib.Dec.{T}
-use lib.ListN.{length}
-use Rattle.meaning.specs.Blocks.{within, holds}
-use Rattle.meaning.specs.Document.{quad, rules, policy, verdictLine, blockLines, Row, twelve}
-use Rattle.meaning.specs.Fields.{Packet, fields}
+use Rattle.meaning.specs.Blocks.{within, holds, inside}
+use Rattle.meaning.specs.Buffers.{bounds, row, rows}
+use Rattle.meaning.specs.Document.{quad, only, block8443, handsets, rules, directive1, policy, verdictLine, blockLines, blockNumbers, rules4, Row, twelve}
+use Rattle.meaning.specs.Fields.{fields}
+use Rattle.meaning.specs.Form.{RuleSet, PolicySet, table, naming, directivesFrom, policyOf, blockInForm, rulesInForm, insideOf, exceptionsInForm, policyInForm}
 use Rattle.meaning.specs.Labels.{Label, good, kind, rule, done, judged, label}
-use Rattle.meaning.specs.Listings.{Listed, Listing}
+use Rattle.meaning.specs.Listings.{Listing}
 use Rattle.meaning.specs.Policies.{excepted, asks, asked, asking}
-use Rattle.meaning.specs.Records.{some-of, all-of, firstFrom, numberOf}
-use Rattle.meaning.specs.Rules.{opposite, same, deciding}
+use Rattle.meaning.specs.Records.{numbered, some-of, all-of, firstFrom, numberOf}
+use Rattle.meaning.specs.Rules.{accept, opposite, same, deciding}
 use Rattle.meaning.specs.Strips.{Cut, counts, corner, stretch, lift, isPlace, cutAt, cutForDirective, cutFor}
-use Rattle.meaning.specs.Verdicts.{IsVerdict}
+use Rattle.meaning.specs.Verdicts.{conforms, IsVerdict}
 use Rattle.meaning.proofs.Best.{better, ahead, bestBelow, best, best-is}
 use Rattle.meaning.proofs.Blame.{sameLabel, same-label-iff}
+use Rattle.meaning.proofs.Clean.{all-good-conforms}
 use Rattle.meaning.proofs.Computed.{below, agree, lastFrom, runsFrom, listingOf, listing-computed}
 use Rattle.meaning.proofs.Corners.{corner-is-verdict}
 use Rattle.meaning.proofs.CutLabels.{label-by-cells}
@@ -26,6 +27,7 @@ use Rattle.meaning.proofs.Judging.{label-numbered}
 use Rattle.meaning.proofs.Lifted.{listing-lifts}
 use Rattle.meaning.proofs.Places.{risingBelow, cutBy}
 use Rattle.meaning.proofs.Ranks.{rankOf, rank, FirstOf}
+use Rattle.meaning.proofs.Verdict.{Judges}
 
 -- each row has the label that the document gives
 pub twelve-labels : T (all-of (λ (r : Row). sameLabel (label (r .table) (r .asked-by) (r .packet)) (r .expected)) twelve)
@@ -78,3 +80,39 @@ run-verdict =
     (2 ∷ 2 ∷ 1 ∷ 1 ∷ [])
     first-cell
     wrong-there
+
+-- and the numbers of its block lines are those of the blocks
+pub run-numbers : rows blockLines ≡ blockNumbers
+unfolding rows row bounds kind rule
+run-numbers = refl
+
+-- The document's sets are in form, as sets with a count and a spare record, and stand for its table and its policy.
+abbrev ruleSet : RuleSet
+ruleSet = record { count = 3; records = rules4 }
+
+abbrev policySet : PolicySet
+policySet =
+    record {
+      directive-count = 1;
+      directives = record { action = accept; block = directive1 .block } ∷ [];
+      exception-count = 1;
+      exceptions = record { directive = 1; block = block8443 handsets (only (quad 10 30 0 6)) } ∷ [];
+    }
+
+pub run-in-form : T (rulesInForm fields ruleSet && policyInForm fields policySet)
+unfolding rulesInForm policyInForm exceptionsInForm insideOf inside blockInForm numbered all-of
+run-in-form = tt
+
+pub run-sets : (table ruleSet ≡ rules) × (policyOf policySet ≡ policy)
+unfolding policyOf directivesFrom naming
+run-sets = (refl, refl)
+
+-- "An empty table and an empty policy are in form; both empty conform."
+pub empty-in-form : (ns : List ℕ)
+    → T (rulesInForm ns (record { count = 0; records = [] }) && policyInForm ns (record { directive-count = 0; directives = []; exception-count = 0; exceptions = [] }))
+unfolding rulesInForm policyInForm exceptionsInForm all-of
+empty-in-form ns = tt
+
+pub empty-conforms : (ns : List ℕ) → Judges ns [] (record { directives = [] }) (conforms ns)
+unfolding label judged asked deciding firstFrom some-of
+empty-conforms ns = all-good-conforms ns (label [] (record { directives = [] })) (asking (record { directives = [] })) (λ q i. refl)

@@ -10,7 +10,7 @@ use lib.Dec.{T, leb, ltb, eqb, leb→le, le→leb, ltb→lt, lt→ltb, eqb→eq}
 use lib.ListN.{getElem?, take}
 use Rattle.meaning.specs.Blocks.{Block, holds, Holds, inside, whole, widest}
 use Rattle.meaning.specs.Fields.{Packet, InRange, range-none, range-more}
-use Rattle.meaning.specs.Form.{Exception, PolicySet, naming, directivesFrom, policyOf, blockInForm, rulesInForm, insideOf, exceptionsInForm, policyInForm, packetInForm, mostDirectives, mostExceptions}
+use Rattle.meaning.specs.Form.{unrefused, outOfForm, orElse, RuleSet, table, Exception, PolicySet, naming, directivesFrom, policyOf, blockInForm, rulesInForm, insideOf, exceptionsInForm, policyInForm, packetInForm, refuseRules, refusePolicy, refusePacket, refuseSets, refuseLabel, mostRules, mostDirectives, mostExceptions}
 use Rattle.meaning.specs.Policies.{Directive, Policy, excepted, asks}
 use Rattle.meaning.specs.Records.{numbered, some-of, all-of, Every, every-none, every-more}
 use Rattle.meaning.specs.Rules.{Action, accept, deny, opposite, same, Rule}
@@ -128,3 +128,38 @@ module _ (d : Directive) (p : Packet) where
 
   pub asks-iff-holds : Enclosing d → AsksSome ↔ Holds (d .block) p
   asks-iff-holds e = (⊎-elim (asked-holds e accept) (asked-holds e deny), holds-asked)
+
+-- Rules are looked at first, then the policy, then the packet; records past the count are not looked at.
+module _ (ns : List ℕ) (rules : RuleSet) (policy : PolicySet) (p : Packet) where
+  pub rules-refused-first : ¬ T (rulesInForm ns rules) → refuseLabel ns rules policy p ≡ outOfForm 1
+  unfolding refuseLabel refuseSets refuseRules orElse
+  rules-refused-first h = rw (failed (rulesInForm ns rules) h)
+
+  pub policy-refused-next : T (rulesInForm ns rules) → ¬ T (policyInForm ns policy) → refuseLabel ns rules policy p ≡ outOfForm 2
+  unfolding refuseLabel refuseSets refuseRules refusePolicy orElse
+  policy-refused-next t h = rw (passed (rulesInForm ns rules) t, failed (policyInForm ns policy) h)
+
+  pub packet-refused-last : T (rulesInForm ns rules) → T (policyInForm ns policy) → ¬ InRange ns p → refuseLabel ns rules policy p ≡ outOfForm 3
+  unfolding refuseLabel refuseSets refuseRules refusePolicy refusePacket orElse
+  packet-refused-last t u h = rw (passed (rulesInForm ns rules) t, passed (policyInForm ns policy) u, failed (packetInForm ns p) (λ v. h (range-of ns p v)))
+
+  pub in-form-unrefused : T (rulesInForm ns rules) → T (policyInForm ns policy) → InRange ns p → refuseLabel ns rules policy p ≡ unrefused
+  unfolding refuseLabel refuseSets refuseRules refusePolicy refusePacket orElse
+  in-form-unrefused t u i = rw (passed (rulesInForm ns rules) t, passed (policyInForm ns policy) u, passed (packetInForm ns p) (form-of ns p i))
+
+pub rules-past-count-unseen : (ns : List ℕ) (s t : RuleSet) → s .count ≡ t .count → table s ≡ table t → rulesInForm ns s ≡ rulesInForm ns t
+unfolding rulesInForm
+rules-past-count-unseen ns s t c e = λ i. leb (c i) mostRules && all-of (λ (r : Rule). blockInForm ns (r .block)) (e i)
+
+pub policy-past-count-unseen : (ns : List ℕ) (s t : PolicySet)
+    → s .directive-count ≡ t .directive-count
+    → s .exception-count ≡ t .exception-count
+    → take (s .directive-count) (s .directives) ≡ take (t .directive-count) (t .directives)
+    → take (s .exception-count) (s .exceptions) ≡ take (t .exception-count) (t .exceptions)
+    → (policyInForm ns s ≡ policyInForm ns t) × (policyOf s ≡ policyOf t)
+unfolding policyInForm policyOf
+policy-past-count-unseen ns s t c d e f = (
+  λ i.
+      leb (c i) mostDirectives && leb (d i) mostExceptions && all-of (λ (r : Rule). blockInForm ns (r .block)) (e i) && exceptionsInForm ns (e i) 0 (f i),
+  λ i. record { directives = directivesFrom 1 (e i) (f i) },
+)

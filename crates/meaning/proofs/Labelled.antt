@@ -15,7 +15,7 @@ use Rattle.meaning.specs.Labels.{Label, good, conflict, wrong, unasked, 
 use Rattle.meaning.specs.Policies.{Policy, asked, Asked}
 use Rattle.meaning.specs.Records.{Found, nothing, found, numbered}
 use Rattle.meaning.specs.Rules.{Action, accept, deny, opposite, Rule, deciding}
-use Rattle.meaning.proofs.Firsts.{First, first-none, first-at, first-cases, NoneBefore, number-within}
+use Rattle.meaning.proofs.Firsts.{First, first-none, first-at, first-cases}
 use Rattle.meaning.proofs.Tests.{passed, failed, tested}
 
 module _ (rules : List Rule) (p : Packet) where
@@ -25,21 +25,15 @@ module _ (rules : List Rule) (p : Packet) where
     decided : (i : ℕ) (r : Rule) → deciding rules p ≡ found i r → Matches rules p i r → Decided
 
   pub decided-cases : Decided
-  unfolding deciding numbered
-  decided-cases = from (first-cases held 1 rules)
+  unfolding deciding
+  decided-cases = from (first-cases held rules)
     where
       held : Rule → Bool
       held r = holds (r .block) p
 
-      earlier : (k j : ℕ) (s : Rule) → NoneBefore held rules k → j < suc k → numbered rules j ≡ some s → ¬ Holds (s .block) p
-      earlier k zero s before l e = absurd (Option·none-ne-some s e)
-      earlier k (suc j) s before l e = before j s (omega arith) e
-
-      from : First held 1 rules → Decided
-      from (first-none e s before) = undecided e (λ i r m. earlier i i r (before i) (omega arith) (m .is-rule) (m .holds-it))
-      from (first-at k r e s at t before) =
-          decided (suc k) r (e ∙ ap (λ (n : ℕ). found n r) (omega arith))
-          (record { is-rule = at; holds-it = t; none-earlier = λ j s l e. earlier k j s before l e })
+      from : First held rules → Decided
+      from (first-none e s below) = undecided e (λ i r m. below (suc i) i r (omega arith) (m .is-rule) (m .holds-it))
+      from (first-at i r e s is-rule t below) = decided i r e (record { is-rule = is-rule; holds-it = t; none-earlier = below })
 
 -- one rule so matches a packet
 pub matches-once : (rules : List Rule) (p : Packet) (i j : ℕ) (r s : Rule) → Matches rules p i r → Matches rules p j s → (i ≡ j) × (r ≡ s)

@@ -23,3 +23,6 @@ pub mod Document
 pub mod Narrowing
 pub mod Written
 pub mod InForm
+pub mod Asking
+pub mod Clean
+pub mod Small

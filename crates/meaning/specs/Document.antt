@@ -6,7 +6,7 @@ use Rattle.meaning.specs.Fields.{Packet, fields, lowest}
 use Rattle.meaning.specs.Labels.{Label, good, conflict, wrong, unasked, unmet-accept, unmet-deny}
 use Rattle.meaning.specs.Listings.{Listed}
 use Rattle.meaning.specs.Policies.{Directive, Policy}
-use Rattle.meaning.specs.Rules.{accept, deny, Rule}
+use Rattle.meaning.specs.Rules.{accept, deny, Table}
 use Rattle.meaning.specs.Verdicts.{Verdict}
 
 abbrev pub quad : ℕ → ℕ → ℕ → ℕ → ℕ
@@ -26,7 +26,7 @@ block8443 source destination = source ∷ destination ∷ only 6 ∷ only 8443 �
 abbrev pub handsets : Span
 handsets = range (quad 10 20 0 0) (quad 10 20 0 255)
 
-abbrev pub rules : List Rule
+abbrev pub rules : Table
 rules =
     record { action = accept; block = block8443 handsets (range (quad 10 30 0 4) (quad 10 30 0 5)) }
     ∷ record { action = accept; block = block8443 (only (quad 10 20 0 9)) (only (quad 10 30 0 6)) }
@@ -66,6 +66,17 @@ blockLines =
     ∷ blockLine unmet-accept (range (quad 10 20 0 10) (quad 10 20 0 255)) (only (quad 10 30 0 7))
     ∷ []
 
+-- and their numbers: kind, rule, four pairs of bounds
+abbrev pub numbers8443 : ℕ → ℕ → ℕ → ℕ → ℕ → List ℕ
+numbers8443 k r low high destination = k ∷ r ∷ low ∷ high ∷ destination ∷ destination ∷ 6 ∷ 6 ∷ 8443 ∷ 8443 ∷ []
+
+abbrev pub blockNumbers : List ℕ
+blockNumbers =
+    numbers8443 4 0 (quad 10 20 0 0) (quad 10 20 0 8) (quad 10 30 0 7)
+    ++ numbers8443 2 2 (quad 10 20 0 9) (quad 10 20 0 9) (quad 10 30 0 6)
+    ++ numbers8443 4 0 (quad 10 20 0 9) (quad 10 20 0 9) (quad 10 30 0 7)
+    ++ numbers8443 4 0 (quad 10 20 0 10) (quad 10 20 0 255) (quad 10 30 0 7)
+
 -- with directive 2, `ask deny * 10.30.0.5 6 8443`, added; with rule 4, `deny * * * *`, added
 abbrev pub any : Span
 any = range 0 4_294_967_295
@@ -73,17 +84,17 @@ any = range 0 4_294_967_295
 abbrev pub policy2 : Policy
 policy2 = record { directives = directive1 ∷ record { action = deny; block = block8443 any (only (quad 10 30 0 5)); exceptions = [] } ∷ [] }
 
-abbrev pub rules4 : List Rule
+abbrev pub rules4 : Table
 rules4 = rules ++ (record { action = deny; block = widest fields } ∷ [])
 
 -- a packet, and the label that the document gives it with a table and a policy
 pub record Row : Type 0 where
-  pub table : List Rule
+  pub table : Table
   pub asked-by : Policy
   pub packet : Packet
   pub expected : Label
 
-abbrev pub row8443 : List Rule → Policy → ℕ → ℕ → Label → Row
+abbrev pub row8443 : Table → Policy → ℕ → ℕ → Label → Row
 row8443 t a source destination l = record { table = t; asked-by = a; packet = source ∷ destination ∷ 6 ∷ 8443 ∷ []; expected = l }
 
 -- L1 to L12

@@ -9,7 +9,7 @@ use Rattle.meaning.specs.Blocks.{Block, inside}
 use Rattle.meaning.specs.Fields.{Packet}
 use Rattle.meaning.specs.Policies.{Directive, Policy}
 use Rattle.meaning.specs.Records.{numbered, all-of}
-use Rattle.meaning.specs.Rules.{Rule}
+use Rattle.meaning.specs.Rules.{Rule, Table}
 
 pub record Refusal : Type 0 where
   pub number : ℕ
@@ -55,7 +55,7 @@ pub record PolicySet : Type 0 where
   pub exception-count : ℕ
   pub exceptions : List Exception
 
-abbrev pub table : RuleSet → List Rule
+abbrev pub table : RuleSet → Table
 table s = take (s .count) (s .records)
 
 -- The policy that a set stands for: each directive with the exceptions that name it.

@@ -5,7 +5,7 @@ use Prim.Native.Nat.{ℕ}
 use Rattle.meaning.specs.Fields.{Packet}
 use Rattle.meaning.specs.Policies.{Policy, asked}
 use Rattle.meaning.specs.Records.{Found, nothing, found}
-use Rattle.meaning.specs.Rules.{Action, accept, deny, Rule, deciding}
+use Rattle.meaning.specs.Rules.{Action, accept, deny, Rule, Table, deciding}
 
 -- "A kind and a rule number": wrong and unasked name the deciding rule.
 pub data Label : Type 0 where
@@ -45,5 +45,5 @@ judged false true nothing = unmet-deny
 judged false false (found n r) = unasked n
 judged false false nothing = good
 
-unfoldable pub label : List Rule → Policy → Packet → Label
+unfoldable pub label : Table → Policy → Packet → Label
 label rules policy p = judged (asked policy accept p) (asked policy deny p) (deciding rules p)

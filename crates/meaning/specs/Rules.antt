@@ -23,6 +23,9 @@ pub record Rule : Type 0 where
   pub action : Action
   pub block : Block
 
+abbrev pub Table : Type 0
+Table = List Rule
+
 -- "The deciding rule is the lowest-numbered rule whose block holds it."
-unfoldable pub deciding : List Rule → Packet → Found Rule
+unfoldable pub deciding : Table → Packet → Found Rule
 deciding rules p = first (λ (r : Rule). holds (r .block) p) rules

@@ -10,7 +10,7 @@ use Rattle.meaning.specs.Fields.{Packet}
 use Rattle.meaning.specs.Listings.{Listed}
 use Rattle.meaning.specs.Policies.{Policy, Directive}
 use Rattle.meaning.specs.Records.{some-of, all-of}
-use Rattle.meaning.specs.Rules.{Rule}
+use Rattle.meaning.specs.Rules.{Rule, Table}
 
 -- A field cut at places: they rise from 0, each once, and none is past the field's largest number.
 pub record Cut : Type 0 where
@@ -77,5 +77,5 @@ cutAt (c ∷ cs) (s ∷ b) = isPlace c (s .low) && isPlace c (suc (s .high)) && 
 unfoldable pub cutForDirective : List Cut → Directive → Bool
 cutForDirective cs d = cutAt cs (d .block) && all-of (cutAt cs) (d .exceptions)
 
-unfoldable pub cutFor : List Cut → List Rule → Policy → Bool
+unfoldable pub cutFor : List Cut → Table → Policy → Bool
 cutFor cs rules policy = all-of (λ (r : Rule). cutAt cs (r .block)) rules && all-of (cutForDirective cs) (policy .directives)
