@@ -1,18 +1,18 @@
 -- Consistent, sound and complete by the kinds of packets: packet by packet, case by case of the label. Assumes nothing.
 use mathlib.Core.Path.{_≡_, refl, sym, _∙_, ap, subst}
-use mathlib.Core.Logic.{_⊎_, inl, inr, ⊎-elim, _↔_}
+use mathlib.Core.Logic.{_⊎_, inl, inr, _↔_}
 use mathlib.Core.List.{List}
 use Prim.Native.Nat.{ℕ}
 use native.Mathlib.Omega.{arith}
 use lib.Dec.{T}
 use Rattle.meaning.specs.Conformance.{Consistent, Matches, Sound, Complete}
-use Rattle.meaning.specs.Fields.{Packet, InRange}
-use Rattle.meaning.specs.Labels.{Label, kind, label}
+use Rattle.meaning.specs.Fields.{Packet}
+use Rattle.meaning.specs.Labels.{kind, label}
 use Rattle.meaning.specs.Policies.{Policy, Asked}
 use Rattle.meaning.specs.Rules.{Action, accept, deny, opposite, same, Rule}
 use Rattle.meaning.specs.Verdicts.{None}
-use Rattle.meaning.proofs.Blame.{Blaming, Lacking, not-blaming, not-lacking}
-use Rattle.meaning.proofs.Labelled.{matches-once, Only, Neither, Case, is-conflict, is-wrong, is-unasked, is-unmet-accept, is-unmet-deny, is-done, is-let-be, label-cases}
+use Rattle.meaning.proofs.LabelKinds.{Blaming, Lacking, not-blaming, not-lacking}
+use Rattle.meaning.proofs.LabelCases.{matches-once, Only, Neither, Case, is-conflict, is-wrong, is-unasked, is-unmet-accept, is-unmet-deny, is-done, is-let-be, label-cases}
 
 -- a packet has A and not B, or B and not A
 abbrev OneOf : Type 0 → Type 0 → Type 0

@@ -17,17 +17,17 @@ use Rattle.meaning.specs.Records.{numbered, some-of, all-of, firstFrom, 
 use Rattle.meaning.specs.Rules.{accept, opposite, same, deciding}
 use Rattle.meaning.specs.Strips.{Cut, counts, corner, stretch, lift, isPlace, cutAt, cutForDirective, cutFor}
 use Rattle.meaning.specs.Verdicts.{conforms, IsVerdict}
-use Rattle.meaning.proofs.Best.{better, ahead, bestBelow, best, best-is}
-use Rattle.meaning.proofs.Blame.{sameLabel, same-label-iff}
-use Rattle.meaning.proofs.Clean.{all-good-conforms}
-use Rattle.meaning.proofs.Computed.{below, agree, lastFrom, runsFrom, listingOf, listing-computed}
-use Rattle.meaning.proofs.Corners.{corner-is-verdict}
-use Rattle.meaning.proofs.CutLabels.{label-by-cells}
-use Rattle.meaning.proofs.Judging.{label-numbered}
-use Rattle.meaning.proofs.Lifted.{listing-lifts}
-use Rattle.meaning.proofs.Places.{risingBelow, cutBy}
-use Rattle.meaning.proofs.Ranks.{rankOf, rank, FirstOf}
-use Rattle.meaning.proofs.Verdict.{Judges}
+use Rattle.meaning.proofs.VerdictFirst.{better, ahead, bestBelow, best, best-is}
+use Rattle.meaning.proofs.LabelKinds.{sameLabel, same-label-iff}
+use Rattle.meaning.proofs.ListingEmpty.{all-good-conforms}
+use Rattle.meaning.proofs.ListingExists.{below, agree, lastFrom, runsFrom, listingOf, listing-computed}
+use Rattle.meaning.proofs.StripVerdict.{corner-is-verdict}
+use Rattle.meaning.proofs.StripLabels.{label-by-cells}
+use Rattle.meaning.proofs.VerdictExists.{label-numbered}
+use Rattle.meaning.proofs.StripListing.{listing-lifts}
+use Rattle.meaning.proofs.StripPlaces.{risingBelow, cutBy}
+use Rattle.meaning.proofs.VerdictRanks.{rankOf, rank, FirstOf}
+use Rattle.meaning.proofs.VerdictConforms.{Judges}
 
 -- each row has the label that the document gives
 pub twelve-labels : T (all-of (λ (r : Row). sameLabel (label (r .table) (r .asked-by) (r .packet)) (r .expected)) twelve)

@@ -10,12 +10,12 @@ use Rattle.meaning.specs.Listings.{Listed, Listing}
 use Rattle.meaning.specs.Policies.{Policy, excepted, asks, asked, asking}
 use Rattle.meaning.specs.Records.{some-of, firstFrom, numberOf}
 use Rattle.meaning.specs.Rules.{accept, opposite, same, Table, deciding}
-use Rattle.meaning.proofs.Best.{better, ahead, bestBelow, best}
-use Rattle.meaning.proofs.Blame.{sameLabel, same-label-iff}
-use Rattle.meaning.proofs.Computed.{below, agree, lastFrom, runsFrom, listingOf, listing-computed}
-use Rattle.meaning.proofs.Judging.{verdictFor, verdictOf, verdict-exists}
-use Rattle.meaning.proofs.Ranks.{rankOf}
-use Rattle.meaning.proofs.Verdict.{Judges}
+use Rattle.meaning.proofs.VerdictFirst.{better, ahead, bestBelow, best}
+use Rattle.meaning.proofs.LabelKinds.{sameLabel, same-label-iff}
+use Rattle.meaning.proofs.ListingExists.{below, agree, lastFrom, runsFrom, listingOf, listing-computed}
+use Rattle.meaning.proofs.VerdictExists.{verdictFor, verdictOf, verdict-exists}
+use Rattle.meaning.proofs.VerdictRanks.{rankOf}
+use Rattle.meaning.proofs.VerdictConforms.{Judges}
 
 abbrev sizes : List ℕ
 sizes = 5 ∷ 4 ∷ []

@@ -1,6 +1,5 @@
 -- The label of a packet, by document 01's table of kinds.
 use mathlib.Core.Bool.{Bool, true, false}
-use mathlib.Core.List.{List}
 use Prim.Native.Nat.{ℕ}
 use Rattle.meaning.specs.Fields.{Packet}
 use Rattle.meaning.specs.Policies.{Policy, asked}

@@ -5,7 +5,7 @@ use mathlib.Core.List.{List, [], _∷_, map}
 use Prim.Native.Nat.{ℕ, suc, _-_, _≤_, _<_}
 use lib.Dec.{eqb}
 use lib.ListN.{length, getD}
-use Rattle.meaning.specs.Blocks.{Span, Block}
+use Rattle.meaning.specs.Blocks.{Block}
 use Rattle.meaning.specs.Fields.{Packet}
 use Rattle.meaning.specs.Listings.{Listed}
 use Rattle.meaning.specs.Policies.{Policy, Directive}

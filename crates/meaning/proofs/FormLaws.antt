@@ -1,0 +1,165 @@
+-- What follows from form: a packet in form is in range, and an exception in form lies inside its directive, so that a directive asks something just where its block holds. Assumes nothing.
+use mathlib.Core.Path.{_≡_, refl, _∙_, ap, subst}
+use mathlib.Core.Logic.{_⊎_, inl, inr, ⊎-elim, _↔_}
+use mathlib.Core.Bool.{_&&_}
+use mathlib.Core.List.{List, [], _∷_}
+use mathlib.Core.Option.{Option, some}
+use Prim.Native.Nat.{ℕ, suc, _+_, _-_, _<_}
+use native.Mathlib.Omega.{arith}
+use lib.Dec.{T, leb, ltb, eqb, le→leb, ltb→lt, lt→ltb, eqb→eq}
+use lib.ListN.{getElem?, take}
+use Rattle.meaning.specs.Blocks.{Block, holds, Holds, inside, widest}
+use Rattle.meaning.specs.Fields.{Packet, InRange, range-none, range-more}
+use Rattle.meaning.specs.Form.{unrefused, outOfForm, orElse, RuleSet, table, Exception, PolicySet, naming, directivesFrom, policyOf, blockInForm, rulesInForm, insideOf, exceptionsInForm, policyInForm, packetInForm, refuseRules, refusePolicy, refusePacket, refuseSets, refuseLabel, mostRules, mostDirectives, mostExceptions}
+use Rattle.meaning.specs.Policies.{Directive, excepted, asks}
+use Rattle.meaning.specs.Records.{numbered, some-of, all-of, Every, every-none, every-more}
+use Rattle.meaning.specs.Rules.{Action, accept, deny, opposite, same, Rule}
+use Rattle.meaning.proofs.BlockHolding.{inside-holds}
+use Rattle.meaning.proofs.Tests.{tested, passed, failed, both, left, right, second}
+
+range-of : (ns : List ℕ) (p : Packet) → T (packetInForm ns p) → InRange ns p
+unfolding packetInForm
+range-of [] [] t = range-none
+range-of [] (x ∷ p) t = absurd t
+range-of (n ∷ ns) [] t = absurd t
+range-of (n ∷ ns) (x ∷ p) t = range-more (ltb→lt x n (left (ltb x n) (packetInForm ns p) t)) (range-of ns p (right (ltb x n) (packetInForm ns p) t))
+
+form-of : (ns : List ℕ) (p : Packet) → InRange ns p → T (packetInForm ns p)
+unfolding packetInForm
+form-of ns p range-none = tt
+form-of ns p (range-more {n} {x} {ns = ms} {p = q} h i) = both (ltb x n) (packetInForm ms q) (lt→ltb x n h) (form-of ms q i)
+
+pub packet-in-form-iff : (ns : List ℕ) (p : Packet) → T (packetInForm ns p) ↔ InRange ns p
+packet-in-form-iff ns p = (range-of ns p, form-of ns p)
+
+-- a block in form lies inside the widest, so it holds packets in range alone
+pub form-inside-widest : (ns : List ℕ) (b : Block) → T (blockInForm ns b) → T (inside b (widest ns))
+unfolding blockInForm inside
+form-inside-widest [] [] t = tt
+form-inside-widest [] (s ∷ b) t = absurd t
+form-inside-widest (n ∷ ns) [] t = absurd t
+form-inside-widest (n ∷ ns) (s ∷ b) t =
+    let ends = leb (s .low) (s .high) && ltb (s .high) n in
+    let high : s .high < n = ltb→lt (s .high) n (right (leb (s .low) (s .high)) (ltb (s .high) n) (left ends (blockInForm ns b) t)) in
+    both (leb 0 (s .low) && leb (s .high) (n - 1)) (inside b (widest ns))
+    (both (leb 0 (s .low)) (leb (s .high) (n - 1)) (le→leb 0 (s .low) (omega arith)) (le→leb (s .high) (n - 1) (omega arith)))
+    (form-inside-widest ns b (right ends (blockInForm ns b) t))
+
+-- the exceptions that name a directive lie inside it
+module _ (ns : List ℕ) (ds : List Rule) where
+  inside-named : (n : ℕ) (d : Rule) → numbered ds n ≡ some d → (before : ℕ) (es : List Exception) → T (exceptionsInForm ns ds before es)
+      → Every (λ b. T (inside b (d .block))) (naming n es)
+  unfolding exceptionsInForm naming insideOf
+  inside-named n d e before [] t = every-none
+  inside-named n d e before (x ∷ es) t =
+      let order = leb before (x .directive) in
+      let lies = insideOf (numbered ds (x .directive)) (x .block) in
+      let form = blockInForm ns (x .block) in
+      let rest = exceptionsInForm ns ds (x .directive) es in
+      let more = inside-named n d e (x .directive) es (right (order && lies && form) rest t) in
+      elim (tested (eqb (x .directive) n)) [
+        | yes u ↦
+            rw (passed (eqb (x .directive) n) u)
+            (every-more
+            (subst (λ (o : Option Rule). T (insideOf o (x .block))) (ap (numbered ds) (eqb→eq (x .directive) n u) ∙ e)
+            (right order lies (left (order && lies) form (left (order && lies && form) rest t))))
+            more)
+        | no u ↦ rw (failed (eqb (x .directive) n) u) more
+      ]
+
+-- every exception of the directive lies inside its block
+abbrev pub Enclosing : Directive → Type 0
+Enclosing d = Every (λ b. T (inside b (d .block))) (d .exceptions)
+
+module _ (ns : List ℕ) (ds : List Rule) (es : List Exception) (t : T (exceptionsInForm ns ds 0 es)) where
+  all-enclosing : (n : ℕ) (later : List Rule) → ((k : ℕ) (d : Rule) → getElem? later k ≡ some d → numbered ds (n + k) ≡ some d) → Every Enclosing (directivesFrom n later es)
+  unfolding directivesFrom
+  all-enclosing n [] at = every-none
+  all-enclosing n (d ∷ later) at =
+      every-more (inside-named ns ds n d (subst (λ (k : ℕ). numbered ds k ≡ some d) (omega arith) (at 0 d refl)) 0 es t)
+      (all-enclosing (suc n) later (λ k c e. subst (λ (j : ℕ). numbered ds j ≡ some c) (omega arith) (at (suc k) c e)))
+
+pub form-enclosing : (ns : List ℕ) (s : PolicySet) → T (policyInForm ns s) → Every Enclosing (policyOf s .directives)
+unfolding policyInForm policyOf numbered
+form-enclosing ns s t =
+    let ds = take (s .directive-count) (s .directives) in
+    let es = take (s .exception-count) (s .exceptions) in
+    let before = leb (s .directive-count) mostDirectives && leb (s .exception-count) mostExceptions && all-of (λ (d : Rule). blockInForm ns (d .block)) ds in
+    all-enclosing ns ds es (right before (exceptionsInForm ns ds 0 es) t) 1 ds
+    (λ k d e. let n : suc k ≡ 1 + k = omega arith in subst (λ (j : ℕ). numbered ds j ≡ some d) n e)
+
+-- Such a directive asks something of a packet just if its block holds it: both readings of document 000's 4.3 are the same.
+some-holds : (bs : List Block) (b : Block) (p : Packet) → Every (λ c. T (inside c b)) bs → T (some-of (λ (c : Block). holds c p) bs) → Holds b p
+unfolding some-of
+some-holds bs b p every-none t = absurd t
+some-holds bs b p (every-more {x = c} {xs = cs} i e) t =
+    elim (tested (holds c p)) [
+      | yes h ↦ inside-holds c b p i h
+      | no h ↦ some-holds cs b p e (second (holds c p) (some-of (λ (x : Block). holds x p) cs) h t)
+    ]
+
+asks-one : (a : Action) → T (same accept a) ⊎ T (same deny a)
+unfolding same
+asks-one accept = inl tt
+asks-one deny = inr tt
+
+module _ (d : Directive) (p : Packet) where
+  abbrev AsksSome : Type 0
+  AsksSome = T (asks d accept p) ⊎ T (asks d deny p)
+
+  asked-holds : Enclosing d → (a : Action) → T (asks d a p) → Holds (d .block) p
+  unfolding asks excepted
+  asked-holds e a t =
+      elim (tested (excepted d p)) [
+        | yes x ↦ some-holds (d .exceptions) (d .block) p e x
+        | no x ↦ right (same a (d .action)) (holds (d .block) p) (rw (failed (excepted d p) x) at t)
+      ]
+
+  holds-asked : Holds (d .block) p → AsksSome
+  unfolding asks
+  holds-asked h =
+      elim (tested (excepted d p)) [
+        | yes x ↦ rw (passed (excepted d p) x) (asks-one (opposite (d .action)))
+        | no x ↦
+            rw (failed (excepted d p) x)
+            (⊎-elim (λ (u : T (same accept (d .action))). inl (both (same accept (d .action)) (holds (d .block) p) u h))
+            (λ (u : T (same deny (d .action))). inr (both (same deny (d .action)) (holds (d .block) p) u h)) (asks-one (d .action)))
+      ]
+
+  pub asks-iff-holds : Enclosing d → AsksSome ↔ Holds (d .block) p
+  asks-iff-holds e = (⊎-elim (asked-holds e accept) (asked-holds e deny), holds-asked)
+
+-- Rules are looked at first, then the policy, then the packet; records past the count are not looked at.
+module _ (ns : List ℕ) (rules : RuleSet) (policy : PolicySet) (p : Packet) where
+  pub rules-refused-first : ¬ T (rulesInForm ns rules) → refuseLabel ns rules policy p ≡ outOfForm 1
+  unfolding refuseLabel refuseSets refuseRules orElse
+  rules-refused-first h = rw (failed (rulesInForm ns rules) h)
+
+  pub policy-refused-next : T (rulesInForm ns rules) → ¬ T (policyInForm ns policy) → refuseLabel ns rules policy p ≡ outOfForm 2
+  unfolding refuseLabel refuseSets refuseRules refusePolicy orElse
+  policy-refused-next t h = rw (passed (rulesInForm ns rules) t, failed (policyInForm ns policy) h)
+
+  pub packet-refused-last : T (rulesInForm ns rules) → T (policyInForm ns policy) → ¬ InRange ns p → refuseLabel ns rules policy p ≡ outOfForm 3
+  unfolding refuseLabel refuseSets refuseRules refusePolicy refusePacket orElse
+  packet-refused-last t u h = rw (passed (rulesInForm ns rules) t, passed (policyInForm ns policy) u, failed (packetInForm ns p) (λ v. h (range-of ns p v)))
+
+  pub in-form-unrefused : T (rulesInForm ns rules) → T (policyInForm ns policy) → InRange ns p → refuseLabel ns rules policy p ≡ unrefused
+  unfolding refuseLabel refuseSets refuseRules refusePolicy refusePacket orElse
+  in-form-unrefused t u i = rw (passed (rulesInForm ns rules) t, passed (policyInForm ns policy) u, passed (packetInForm ns p) (form-of ns p i))
+
+pub rules-past-count-unseen : (ns : List ℕ) (s t : RuleSet) → s .count ≡ t .count → table s ≡ table t → rulesInForm ns s ≡ rulesInForm ns t
+unfolding rulesInForm
+rules-past-count-unseen ns s t c e = λ i. leb (c i) mostRules && all-of (λ (r : Rule). blockInForm ns (r .block)) (e i)
+
+pub policy-past-count-unseen : (ns : List ℕ) (s t : PolicySet)
+    → s .directive-count ≡ t .directive-count
+    → s .exception-count ≡ t .exception-count
+    → take (s .directive-count) (s .directives) ≡ take (t .directive-count) (t .directives)
+    → take (s .exception-count) (s .exceptions) ≡ take (t .exception-count) (t .exceptions)
+    → (policyInForm ns s ≡ policyInForm ns t) × (policyOf s ≡ policyOf t)
+unfolding policyInForm policyOf
+policy-past-count-unseen ns s t c d e f = (
+  λ i.
+      leb (c i) mostDirectives && leb (d i) mostExceptions && all-of (λ (r : Rule). blockInForm ns (r .block)) (e i) && exceptionsInForm ns (e i) 0 (f i),
+  λ i. record { directives = directivesFrom 1 (e i) (f i) },
+)

@@ -1,0 +1,48 @@
+-- "Conforms" is the verdict just if the policy is consistent and the table sound and complete. Assumes nothing.
+use mathlib.Core.Path.{_≡_, refl}
+use mathlib.Core.Logic.{inl, inr, ⊎-elim, _↔_}
+use mathlib.Core.List.{List}
+use Prim.Native.Nat.{ℕ}
+use native.Mathlib.Omega.{arith}
+use Rattle.meaning.specs.Conformance.{Consistent, Sound, Complete}
+use Rattle.meaning.specs.Fields.{Packet}
+use Rattle.meaning.specs.Labels.{Label, kind, rule, label}
+use Rattle.meaning.specs.Policies.{Policy, asking}
+use Rattle.meaning.specs.Rules.{Action, Rule}
+use Rattle.meaning.specs.Verdicts.{Verdict, None, conforms, Conflicts, Faults, Unmet, IsVerdict, case-conflict, case-rule, case-unmet, case-conforms}
+use Rattle.meaning.proofs.Conforming.{OfKind, consistent-iff-no-conflict, sound-iff-no-wrong-or-unasked, complete-iff-no-wrong-or-unmet}
+
+module _ (ns : List ℕ) (f : Packet → Label) (asking : Action → Packet → ℕ) where
+  -- a verdict whose label is good is the fourth case
+  pub record AllGood : Type 0 where
+    pub no-conflict : None ns (Conflicts f)
+    pub no-fault : (n : ℕ) → None ns (Faults f n)
+    pub no-unmet : None ns (Unmet f)
+
+  pub conforms-means : {v : Verdict} → IsVerdict ns f asking v → kind (v .label) ≡ 0 → AllGood
+  conforms-means (case-conflict a) e = absurd (omega (arith, a .is-such))
+  conforms-means (case-rule n c l a) e = absurd (⊎-elim (λ (z : _ ≡ 2). omega arith) (λ (z : _ ≡ 3). omega arith) (a .is-such .0))
+  conforms-means (case-unmet c r a) e = absurd (⊎-elim (λ (z : _ ≡ 4). omega arith) (λ (z : _ ≡ 5). omega arith) (a .is-such))
+  conforms-means (case-conforms c r u) e = record { no-conflict = c; no-fault = r; no-unmet = u }
+
+module _ (ns : List ℕ) (rules : List Rule) (policy : Policy) where
+  -- the verdict on a table and a policy
+  abbrev pub Judges : Verdict → Type 0
+  Judges v = IsVerdict ns (label rules policy) (asking policy) v
+
+  pub conforms-iff-consistent-sound-complete : Judges (conforms ns) ↔ (Consistent ns policy × Sound ns rules policy × Complete ns rules policy)
+  unfolding kind
+  conforms-iff-consistent-sound-complete = (
+    λ v.
+        let all = conforms-means ns (label rules policy) (asking policy) v refl in
+        let c = consistent-iff-no-conflict rules policy ns .1 (all .no-conflict) in (
+          c,
+          sound-iff-no-wrong-or-unasked rules policy ns .1 (λ q i w. all .no-fault (rule (label rules policy q)) q i (w, refl)),
+          complete-iff-no-wrong-or-unmet rules policy ns c .1
+              (λ q i.
+              ⊎-elim (λ (z : OfKind rules policy 2 q). all .no-fault (rule (label rules policy q)) q i (inl z, refl)) (all .no-unmet q i)),
+        ),
+    λ w.
+        case-conforms (consistent-iff-no-conflict rules policy ns .0 (w .0)) (λ n q i z. sound-iff-no-wrong-or-unasked rules policy ns .0 (w .1) q i (z .0))
+        (λ q i z. complete-iff-no-wrong-or-unmet rules policy ns (w .0) .0 (w .2) q i (inr z)),
+  )
