@@ -17,22 +17,6 @@ within-iff s x =
     let high = leb x (s .high) in
     (λ t. (leb→le _ _ (left low high t), leb→le _ _ (right low high t)), λ h. both low high (le→leb _ _ (h .0)) (le→leb _ _ (h .1)))
 
-pub holds-none : Holds [] []
-unfolding holds
-holds-none = tt
-
-pub holds-more : (s : Span) (b : Block) (x : ℕ) (p : Packet) → T (within s x) → Holds b p → Holds (s ∷ b) (x ∷ p)
-unfolding holds
-holds-more s b x p = both (within s x) (holds b p)
-
-pub holds-first : (s : Span) (b : Block) (x : ℕ) (p : Packet) → Holds (s ∷ b) (x ∷ p) → T (within s x)
-unfolding holds
-holds-first s b x p = left (within s x) (holds b p)
-
-pub holds-rest : (s : Span) (b : Block) (x : ℕ) (p : Packet) → Holds (s ∷ b) (x ∷ p) → Holds b p
-unfolding holds
-holds-rest s b x p = right (within s x) (holds b p)
-
 -- what lies inside a block holds no packet that the block does not
 pub inside-holds : (b c : Block) (p : Packet) → T (inside b c) → Holds b p → Holds c p
 unfolding inside holds

@@ -67,7 +67,8 @@ shift : (a b c : Bool) → (a && b && c) ≡ (a && c && b)
 shift true b c = and-comm b c
 shift false b c = refl
 
-pub narrow-holds : (k : ℕ) (bounds : Span) (b : Block) (p : Packet) → T (narrows k bounds b) → holds (narrow k bounds b) p ≡ (holds b p && bounded k bounds p)
+pub narrow-holds : (k : ℕ) (bounds : Span) (b : Block) (p : Packet) → T (narrows k bounds b)
+    → holds (narrow k bounds b) p ≡ (holds b p && bounded k bounds p)
 unfolding narrows narrow holds bounded
 narrow-holds k bounds [] p t = absurd t
 narrow-holds zero bounds (s ∷ b) [] t = refl

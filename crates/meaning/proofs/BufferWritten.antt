@@ -10,7 +10,7 @@ use Rattle.meaning.specs.Blocks.{Block}
 use Rattle.meaning.specs.Buffers.{bounds, row, rows, rowLength, room, written}
 use Rattle.meaning.specs.Fields.{Packet}
 use Rattle.meaning.specs.Labels.{Label}
-use Rattle.meaning.specs.Listings.{Listed, at, widen, Runs, no-more, run, Last, is-good, at-fault, Listing}
+use Rattle.meaning.specs.Listings.{Listed, Lister, at, widen, Runs, no-more, run, Last, is-good, at-fault, Listing}
 use Rattle.meaning.specs.Records.{Every, every-none, every-more}
 use Rattle.meaning.proofs.RecordsEvery.{every-append, every-map, every-take}
 
@@ -19,7 +19,7 @@ abbrev pub Shaped : {L : Type 0} → List ℕ → Listed L → Type 0
 Shaped ns b = length (b .block) ≡ length ns
 
 module _ {L : Type 0} where
-  module _ (ns : List ℕ) (Inner : (Packet → L) → List (Listed L) → Type 0) (n : ℕ) (inner-shaped : (f : Packet → L) (bs : List (Listed L)) → Inner f bs → Every (Shaped ns) bs) where
+  module _ (ns : List ℕ) (Inner : Lister L) (n : ℕ) (inner-shaped : (f : Packet → L) (bs : List (Listed L)) → Inner f bs → Every (Shaped ns) bs) where
     runs-shaped : {f : Packet → L} {low : ℕ} {bs : List (Listed L)} → Runs ns Inner n f low bs → Every (Shaped (n ∷ ns)) bs
     runs-shaped (no-more a) = every-none
     runs-shaped {f} (run {low} {high} {blocks} {later} a b c d i r) =

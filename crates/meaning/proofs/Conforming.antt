@@ -7,7 +7,7 @@ use native.Mathlib.Omega.{arith}
 use lib.Dec.{T}
 use Rattle.meaning.specs.Conformance.{Consistent, Matches, Sound, Complete}
 use Rattle.meaning.specs.Fields.{Packet}
-use Rattle.meaning.specs.Labels.{kind, label}
+use Rattle.meaning.specs.Labels.{kind, label, OfKind}
 use Rattle.meaning.specs.Policies.{Policy, Asked}
 use Rattle.meaning.specs.Rules.{Action, accept, deny, opposite, same, Rule}
 use Rattle.meaning.specs.Verdicts.{None}
@@ -24,10 +24,6 @@ opposite-differs accept e = subst (λ (b : Action). T (same deny b)) e tt
 opposite-differs deny e = subst (λ (b : Action). T (same accept b)) e tt
 
 module _ (rules : List Rule) (policy : Policy) where
-  -- q's label has the kind k
-  abbrev pub OfKind : ℕ → Packet → Type 0
-  OfKind k q = kind (label rules policy q) ≡ k
-
   module _ (q : Packet) where
     abbrev Asks : Action → Type 0
     Asks a = Asked policy a q
@@ -65,7 +61,7 @@ module _ (rules : List Rule) (policy : Policy) where
     not-opposite : (a b : Action) → b ≡ opposite a → b ≡ a → ⊥
     not-opposite a b e f = opposite-differs a (sym e ∙ f)
 
-    by-conflict : Case rules policy q (label rules policy q) → OneOf ConsistentAt (OfKind 1 q)
+    by-conflict : Case rules policy q (label rules policy q) → OneOf ConsistentAt (OfKind rules policy 1 q)
     unfolding kind
     by-conflict (is-conflict e a d) = inr (λ c. c a d, ap kind e)
     by-conflict (is-wrong a i r e o m u) = inl (not-both a o, λ z. omega (arith, ap kind e))
@@ -86,7 +82,7 @@ module _ (rules : List Rule) (policy : Policy) where
         inl (λ j s n. subst (λ (t : Rule). Asks (t .action)) (matches-once rules q i j r s m n .1) (subst Asks (sym u) (o .this)), not-blaming (label rules policy q) 0 (ap kind e) tt)
     by-blame (is-let-be e n u) = inl (λ i r m. absurd (u i r m), not-blaming (label rules policy q) 0 (ap kind e) tt)
 
-    by-lack : ¬ OfKind 1 q → Case rules policy q (label rules policy q) → OneOf CompleteAt (Lacking (label rules policy q))
+    by-lack : ¬ OfKind rules policy 1 q → Case rules policy q (label rules policy q) → OneOf CompleteAt (Lacking (label rules policy q))
     unfolding kind
     by-lack h (is-conflict e a d) = absurd (h (ap kind e))
     by-lack h (is-wrong a i r e o m u) =
@@ -112,16 +108,17 @@ module _ (rules : List Rule) (policy : Policy) where
   has (inl w) h = w .0
   has (inr w) h = absurd (h (w .1))
 
-  pub consistent-iff-no-conflict : (ns : List ℕ) → Consistent ns policy ↔ None ns (OfKind 1)
+  pub consistent-iff-no-conflict : (ns : List ℕ) → Consistent ns policy ↔ None ns (OfKind rules policy 1)
   consistent-iff-no-conflict ns =
       (λ c q i. has-not (by-conflict q (label-cases rules policy q)) (c q i), λ h q i. has (by-conflict q (label-cases rules policy q)) (h q i))
 
   -- consistent or not
-  pub sound-iff-no-wrong-or-unasked : (ns : List ℕ) → Sound ns rules policy ↔ None ns (λ q. OfKind 2 q ⊎ OfKind 3 q)
+  pub sound-iff-no-wrong-or-unasked : (ns : List ℕ) → Sound ns rules policy ↔ None ns (λ q. OfKind rules policy 2 q ⊎ OfKind rules policy 3 q)
   sound-iff-no-wrong-or-unasked ns =
       (λ s q i. has-not (by-blame q (label-cases rules policy q)) (s q i), λ h q i. has (by-blame q (label-cases rules policy q)) (h q i))
 
-  pub complete-iff-no-wrong-or-unmet : (ns : List ℕ) → Consistent ns policy → Complete ns rules policy ↔ None ns (λ q. OfKind 2 q ⊎ OfKind 4 q ⊎ OfKind 5 q)
+  pub complete-iff-no-wrong-or-unmet : (ns : List ℕ) → Consistent ns policy
+      → Complete ns rules policy ↔ None ns (λ q. OfKind rules policy 2 q ⊎ OfKind rules policy 4 q ⊎ OfKind rules policy 5 q)
   complete-iff-no-wrong-or-unmet ns c =
       let at-peace = consistent-iff-no-conflict ns .0 c in
       (λ s q i. has-not (by-lack q (at-peace q i) (label-cases rules policy q)) (s q i), λ h q i. has (by-lack q (at-peace q i) (label-cases rules policy q)) (h q i))

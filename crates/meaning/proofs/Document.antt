@@ -6,7 +6,7 @@ use Prim.Native.Nat.{ℕ, _^_}
 use native.Mathlib.Omega.{arith}
 use lib.Dec.{T}
 use Rattle.meaning.specs.Blocks.{within, holds, inside}
-use Rattle.meaning.specs.Buffers.{bounds, row, rows}
+use Rattle.meaning.specs.Buffers.{FaultListing, bounds, row, rows}
 use Rattle.meaning.specs.Document.{quad, only, block8443, handsets, rules, directive1, policy, verdictLine, blockLines, blockNumbers, rules4, Row, twelve}
 use Rattle.meaning.specs.Fields.{fields}
 use Rattle.meaning.specs.Form.{RuleSet, PolicySet, table, naming, directivesFrom, policyOf, blockInForm, rulesInForm, insideOf, exceptionsInForm, policyInForm}
@@ -16,7 +16,7 @@ use Rattle.meaning.specs.Policies.{excepted, asks, asked, asking}
 use Rattle.meaning.specs.Records.{numbered, some-of, all-of, firstFrom, numberOf}
 use Rattle.meaning.specs.Rules.{accept, opposite, same, deciding}
 use Rattle.meaning.specs.Strips.{Cut, counts, corner, stretch, lift, isPlace, cutAt, cutForDirective, cutFor}
-use Rattle.meaning.specs.Verdicts.{conforms, IsVerdict}
+use Rattle.meaning.specs.Verdicts.{conforms, VerdictOn}
 use Rattle.meaning.proofs.VerdictFirst.{better, ahead, bestBelow, best, best-is}
 use Rattle.meaning.proofs.LabelKinds.{sameLabel, same-label-iff}
 use Rattle.meaning.proofs.ListingEmpty.{all-good-conforms}
@@ -27,7 +27,6 @@ use Rattle.meaning.proofs.VerdictExists.{label-numbered}
 use Rattle.meaning.proofs.StripListing.{listing-lifts}
 use Rattle.meaning.proofs.StripPlaces.{risingBelow, cutBy}
 use Rattle.meaning.proofs.VerdictRanks.{rankOf, rank, FirstOf}
-use Rattle.meaning.proofs.VerdictConforms.{Judges}
 
 -- each row has the label that the document gives
 pub twelve-labels : T (all-of (λ (r : Row). sameLabel (label (r .table) (r .asked-by) (r .packet)) (r .expected)) twelve)
@@ -56,7 +55,7 @@ unfolding risingBelow cutFor cutForDirective cutAt isPlace all-of some-of
 rules-and-policy-cut = tt
 
 -- the four blocks are the listing, over all packets
-pub run-blocks : Listing good fields (label rules policy) blockLines
+pub run-blocks : FaultListing fields rules policy blockLines
 unfolding risingBelow
 run-blocks =
     subst (Listing good fields (label rules policy)) blocks-computed
@@ -73,7 +72,7 @@ unfolding risingBelow kind label judged done asked asks excepted deciding firstF
 wrong-there e = omega (arith, ap kind e)
 
 -- the verdict line is the verdict, over all packets
-pub run-verdict : IsVerdict fields (label rules policy) (asking policy) verdictLine
+pub run-verdict : VerdictOn fields rules policy verdictLine
 unfolding risingBelow corner asking numberOf label judged done asked asks excepted deciding firstFrom some-of holds within opposite same
 run-verdict =
     corner-is-verdict cuts (label rules policy) (asking policy) (label-by-cells cuts rules policy rules-and-policy-cut) 3 (λ q i. label-numbered rules policy q)
@@ -113,6 +112,6 @@ pub empty-in-form : (ns : List ℕ)
 unfolding rulesInForm policyInForm exceptionsInForm all-of
 empty-in-form ns = tt
 
-pub empty-conforms : (ns : List ℕ) → Judges ns [] (record { directives = [] }) (conforms ns)
+pub empty-conforms : (ns : List ℕ) → VerdictOn ns [] (record { directives = [] }) (conforms ns)
 unfolding label judged asked deciding firstFrom some-of
 empty-conforms ns = all-good-conforms ns (label [] (record { directives = [] })) (asking (record { directives = [] })) (λ q i. refl)

@@ -1,4 +1,4 @@
--- What follows from form: a packet in form is in range, and an exception in form lies inside its directive, so that a directive asks something just where its block holds. Assumes nothing.
+-- What follows from form: a packet in form is in range, and exceptions in form lie inside their directives. Assumes nothing.
 use mathlib.Core.Path.{_≡_, refl, _∙_, ap, subst}
 use mathlib.Core.Logic.{_⊎_, inl, inr, ⊎-elim, _↔_}
 use mathlib.Core.Bool.{_&&_}
@@ -72,7 +72,8 @@ abbrev pub Enclosing : Directive → Type 0
 Enclosing d = Every (λ b. T (inside b (d .block))) (d .exceptions)
 
 module _ (ns : List ℕ) (ds : List Rule) (es : List Exception) (t : T (exceptionsInForm ns ds 0 es)) where
-  all-enclosing : (n : ℕ) (later : List Rule) → ((k : ℕ) (d : Rule) → getElem? later k ≡ some d → numbered ds (n + k) ≡ some d) → Every Enclosing (directivesFrom n later es)
+  all-enclosing : (n : ℕ) (later : List Rule) → ((k : ℕ) (d : Rule) → getElem? later k ≡ some d → numbered ds (n + k) ≡ some d)
+      → Every Enclosing (directivesFrom n later es)
   unfolding directivesFrom
   all-enclosing n [] at = every-none
   all-enclosing n (d ∷ later) at =

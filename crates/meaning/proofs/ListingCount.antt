@@ -10,7 +10,7 @@ use lib.ListN.{length, length-append, length-map}
 use lib.Dec.{T}
 use Rattle.meaning.specs.Fields.{Packet}
 use Rattle.meaning.specs.Form.{mostRules, mostDirectives, mostExceptions}
-use Rattle.meaning.specs.Listings.{Listed, at, Runs, no-more, run, Last, is-good, at-fault, Listing}
+use Rattle.meaning.specs.Listings.{Listed, Lister, at, Runs, no-more, run, Last, is-good, at-fault, Listing}
 use Rattle.meaning.specs.Records.{Every, every-none, every-more}
 use Rattle.meaning.specs.Strips.{Cut, strips, sizes, counts, ByCells, lift}
 use Rattle.meaning.proofs.ListingExists.{listingOf, listing-computed}
@@ -22,7 +22,7 @@ product [] = 1
 product (n ∷ ns) = n * product ns
 
 module _ {L : Type 0} where
-  module _ (ns : List ℕ) (Inner : (Packet → L) → List (Listed L) → Type 0) (n k : ℕ) (inner-few : (f : Packet → L) (bs : List (Listed L)) → Inner f bs → length bs ≤ k) where
+  module _ (ns : List ℕ) (Inner : Lister L) (n k : ℕ) (inner-few : (f : Packet → L) (bs : List (Listed L)) → Inner f bs → length bs ≤ k) where
     runs-few : {f : Packet → L} {low : ℕ} {bs : List (Listed L)} → low ≤ n → Runs ns Inner n f low bs → length bs + low * k ≤ n * k
     runs-few h (no-more b) = omega (arith, mul-le-mul-right k h)
     runs-few {f} h (run {low} {high} {blocks} {later} a b c d i r) =
@@ -43,18 +43,28 @@ pub power : (m : ℕ) {ns : List ℕ} → Every (λ n. n ≤ m) ns → product n
 power m every-none = omega (arith, pow-zero m)
 power m (every-more {x = n} {xs = ns} h e) = omega (arith, mul-le-mul h (power m e), pow-suc m (length ns), mul-comm m (m ^ length ns))
 
-module _ {L : Type 0} (same : L → L → Bool) (same-iff : (a b : L) → T (same a b) ↔ (a ≡ b)) (good : L) (cs : List Cut) (h f : Packet → L) (hf : ByCells cs h f) where
-  pub listing-few-by-cells : (bs : List (Listed L)) → Listing good (sizes cs) f bs → length bs ≤ product (counts cs)
-  listing-few-by-cells bs a =
-      let cells = listing-computed same same-iff good (counts cs) h in
-      let e : bs ≡ map (lift cs) (listingOf same same-iff good (counts cs) h) =
-      listing-is-unique good (sizes cs) f f bs (map (lift cs) (listingOf same same-iff good (counts cs) h)) a (listing-lifts good cs h f (listingOf same same-iff good (counts cs) h) hf cells) (agree-refl f) in
-      rw e (simp length-map (listing-few good (counts cs) h (listingOf same same-iff good (counts cs) h) cells))
+module _
+    {L : Type 0}
+    (same : L → L → Bool)
+    (same-iff : (a b : L) → T (same a b) ↔ (a ≡ b))
+    (good : L)
+    (cs : List Cut)
+    (h f : Packet → L)
+    (hf : ByCells cs h f)
+  where
+    pub listing-few-by-cells : (bs : List (Listed L)) → Listing good (sizes cs) f bs → length bs ≤ product (counts cs)
+    listing-few-by-cells bs a =
+        let cells = listing-computed same same-iff good (counts cs) h in
+        let e : bs ≡ map (lift cs) (listingOf same same-iff good (counts cs) h) =
+        listing-is-unique good (sizes cs) f f bs (map (lift cs) (listingOf same same-iff good (counts cs) h)) a (listing-lifts good cs h f (listingOf same same-iff good (counts cs) h) hf cells) (agree-refl f) in
+        rw e (simp length-map (listing-few good (counts cs) h (listingOf same same-iff good (counts cs) h) cells))
 
-  pub listing-within-limits : (m : ℕ) (bs : List (Listed L)) → Every (λ n. n ≤ m) (counts cs) → Listing good (sizes cs) f bs → length bs ≤ m ^ length cs
-  listing-within-limits m bs e a = omega (arith, listing-few-by-cells bs a, power m e, ap (λ (k : ℕ). m ^ k) (length-map cs strips))
+    pub listing-within-limits : (m : ℕ) (bs : List (Listed L)) → Every (λ n. n ≤ m) (counts cs) → Listing good (sizes cs) f bs
+        → length bs ≤ m ^ length cs
+    listing-within-limits m bs e a = omega (arith, listing-few-by-cells bs a, power m e, ap (λ (k : ℕ). m ^ k) (length-map cs strips))
 
-  -- Four fields, and sets within their limits: each block begins at one place and has just ended at another, and 0 is one more.
-  pub four-fields-few : (bs : List (Listed L)) → length cs ≡ 4 → Every (λ n. n ≤ 2 * (mostRules + mostDirectives + mostExceptions) + 1) (counts cs) → Listing good (sizes cs) f bs
-      → length bs ≤ 10_617_447_681
-  four-fields-few bs four e a = omega (arith, listing-within-limits 321 bs e a, ap (λ (k : ℕ). 321 ^ k) four)
+    -- Four fields, and sets within their limits: each block begins at one place and has just ended at another, and 0 is one more.
+    pub four-fields-few : (bs : List (Listed L)) → length cs ≡ 4 → Every (λ n. n ≤ 2 * (mostRules + mostDirectives + mostExceptions) + 1) (counts cs)
+        → Listing good (sizes cs) f bs
+        → length bs ≤ 10_617_447_681
+    four-fields-few bs four e a = omega (arith, listing-within-limits 321 bs e a, ap (λ (k : ℕ). 321 ^ k) four)

@@ -6,11 +6,11 @@ use Prim.Native.Nat.{ℕ, zero, suc}
 use native.Mathlib.Omega.{arith}
 use Rattle.meaning.specs.Fields.{Packet}
 use Rattle.meaning.specs.Labels.{Label, good, kind, rule}
-use Rattle.meaning.specs.Listings.{Listed, Agree, no-more, run, is-good, Listing, told}
+use Rattle.meaning.specs.Listings.{Listed, Agree, no-more, run, is-good, Listing, told, Tells, tells-good, tells-fault}
 use Rattle.meaning.specs.Rules.{Action}
 use Rattle.meaning.specs.Verdicts.{conforms, IsVerdict, case-conforms}
 use Rattle.meaning.proofs.LabelKinds.{Kinds, is-good as kind-good, is-conflict, is-blaming, is-unmet, kinds, not-blaming, not-lacking}
-use Rattle.meaning.proofs.ListingTells.{Tells, tells-good, tells-fault, listing-tells}
+use Rattle.meaning.proofs.ListingTells.{listing-tells}
 use Rattle.meaning.proofs.ListingUnique.{agree-refl, listing-is-unique}
 use Rattle.meaning.proofs.VerdictConforms.{AllGood, conforms-means}
 
@@ -20,7 +20,11 @@ module _ {L : Type 0} (fine : L) where
   listing-of-good [] = is-good refl
   listing-of-good (zero ∷ ns) = no-more {low = 0} (omega arith)
   listing-of-good (suc n ∷ ns) =
-      run {low = 0} {high = n} {blocks = []} {later = []} (omega arith) (omega arith) (λ x a b. agree-refl (λ p. fine)) (λ l. absurd (omega arith)) (listing-of-good ns) (no-more {low = suc n} (omega arith))
+      run {low = 0} {high = n} {blocks = []} {later = []} (omega arith) (omega arith)
+      (λ x a b. agree-refl (λ p. fine))
+      (λ l. absurd (omega arith))
+      (listing-of-good ns)
+      (no-more {low = suc n} (omega arith))
 
   told-nothing : (l : L) → Tells fine l [] → l ≡ fine
   told-nothing l (tells-good g e) = g

@@ -9,7 +9,7 @@ use native.Mathlib.Decide.{decLt, decLe}
 use borrow.Author.Tests.{lt-ltb, le-ltb}
 use lib.Dec.{T, ltb}
 use Rattle.meaning.specs.Fields.{Packet, range-none, range-more}
-use Rattle.meaning.specs.Listings.{Listed, at, Agree, widen, Runs, no-more, run, is-good, at-fault, Listing}
+use Rattle.meaning.specs.Listings.{Listed, Lister, at, Agree, widen, Runs, no-more, run, is-good, at-fault, Listing}
 use Rattle.meaning.proofs.Tests.{tested, passed, failed, both, left, right}
 use Rattle.meaning.proofs.ListingUnique.{agree-refl, RunTo}
 
@@ -53,7 +53,8 @@ module _ {L : Type 0} (same : L → L → Bool) (same-iff : (a b : L) → T (sam
     lastFrom zero high = high
     lastFrom (suc k) high = cond (agree ns (at f low) (at f (suc high))) (lastFrom k (suc high)) high
 
-    last-is : (k high : ℕ) → suc high + k ≡ n → low ≤ high → ((x : ℕ) → low ≤ x → x ≤ high → Agree ns (at f low) (at f x)) → RunTo ns n f low (lastFrom k high)
+    last-is : (k high : ℕ) → suc high + k ≡ n → low ≤ high → ((x : ℕ) → low ≤ x → x ≤ high → Agree ns (at f low) (at f x))
+        → RunTo ns n f low (lastFrom k high)
     unfolding lastFrom
     last-is zero high e h all = record { rises = h; below = omega arith; agrees = all; stops = λ l. absurd (omega arith) }
     last-is (suc k) high e h all =
@@ -77,7 +78,7 @@ module _ {L : Type 0} (same : L → L → Bool) (same-iff : (a b : L) → T (sam
       let high = lastFrom ns n f low (n - suc low) low in
       cond (ltb low n) (map (widen low high) (inner (at f low)) ++ runsFrom ns inner n f k (suc high)) []
 
-  runs-are : (ns : List ℕ) (inner : (Packet → L) → List (Listed L)) (Inner : (Packet → L) → List (Listed L) → Type 0) → ((f : Packet → L) → Inner f (inner f))
+  runs-are : (ns : List ℕ) (inner : (Packet → L) → List (Listed L)) (Inner : Lister L) → ((f : Packet → L) → Inner f (inner f))
       → (n : ℕ) (f : Packet → L) (k low : ℕ) → n ≤ low + k → Runs ns Inner n f low (runsFrom ns inner n f k low)
   unfolding runsFrom
   runs-are ns inner Inner inner-is n f zero low h = no-more {low = low} (omega arith)

@@ -8,7 +8,7 @@ use native.Mathlib.Omega.{arith}
 use native.Mathlib.Decide.{decLt, decLe}
 use Rattle.meaning.specs.Blocks.{within, holds}
 use Rattle.meaning.specs.Fields.{Packet, InRange, range-none, range-more}
-use Rattle.meaning.specs.Listings.{Listed, at, Agree, widen, Runs, no-more, run, Last, is-good, at-fault, Listing, told}
+use Rattle.meaning.specs.Listings.{Listed, Lister, at, Agree, widen, Runs, no-more, run, Last, is-good, at-fault, Listing, told, Tells, tells-good, tells-fault}
 use Rattle.meaning.proofs.BlockHolding.{within-iff}
 use Rattle.meaning.proofs.Tests.{passed, failed}
 use Rattle.meaning.proofs.ListingUnique.{listing-is-unique}
@@ -47,7 +47,7 @@ module _ {L : Type 0} where
   joined : (p : Packet) (bs cs : List (Listed L)) (ls ms : List L) → told p bs ≡ ls → told p cs ≡ ms → told p (bs ++ cs) ≡ ls ++ ms
   joined p bs cs ls ms a b = told-append p bs cs ∙ ap (λ (t : List L). t ++ told p cs) a ∙ ap (λ (t : List L). ls ++ t) b
 
-module _ {L : Type 0} {ns : List ℕ} {Inner : (Packet → L) → List (Listed L) → Type 0} {n : ℕ} {f : Packet → L} where
+module _ {L : Type 0} {ns : List ℕ} {Inner : Lister L} {n : ℕ} {f : Packet → L} where
   -- the runs from `low` on tell nothing of what is below
   told-below : (x : ℕ) (p : Packet) {low : ℕ} {bs : List (Listed L)} → x < low → Runs ns Inner n f low bs → told (x ∷ p) bs ≡ []
   unfolding told
@@ -56,59 +56,66 @@ module _ {L : Type 0} {ns : List ℕ} {Inner : (Packet → L) → List (Listed L
       joined (x ∷ p) (map (widen low high) blocks) later [] [] (told-out low high x p blocks (λ w. omega (arith, w .0))) (told-below x p (omega arith) r)
 
 module _ {L : Type 0} (good : L) where
-  -- l is good and nothing is told, or it is at fault and told once
-  pub data Tells (l : L) (ls : List L) : Type 0 where
-    tells-good : l ≡ good → ls ≡ [] → Tells l ls
-    tells-fault : ¬ (l ≡ good) → ls ≡ l ∷ [] → Tells l ls
-
-  tells-same : {l : L} {ls ms : List L} → ls ≡ ms → Tells l ms → Tells l ls
+  tells-same : {l : L} {ls ms : List L} → ls ≡ ms → Tells good l ms → Tells good l ls
   tells-same e (tells-good g t) = tells-good g (e ∙ t)
   tells-same e (tells-fault h t) = tells-fault h (e ∙ t)
 
-  module _ (ns : List ℕ) (Inner : (Packet → L) → List (Listed L) → Type 0) (n : ℕ) (inner-tells : (f : Packet → L) (bs : List (Listed L)) (p : Packet) → Inner f bs → InRange ns p → Tells (f p) (told p bs)) where
-    runs-tell : (f : Packet → L) (x : ℕ) (p : Packet) {low : ℕ} {bs : List (Listed L)} → low ≤ x → x < n → InRange ns p → Runs ns Inner n f low bs → Tells (f (x ∷ p)) (told (x ∷ p) bs)
-    runs-tell f x p h l i (no-more a) = absurd (omega arith)
-    runs-tell f x p h l i (run {low} {high} {blocks} {later} a b c d inner r) =
-        elim (decLt high x) [
-          | yes past ↦
-              tells-same (joined (x ∷ p) (map (widen low high) blocks) later [] _ (told-out low high x p blocks (λ w. omega (arith, w .1))) refl)
-              (runs-tell f x p past l i r)
-          | no here ↦
-              tells-same (joined (x ∷ p) (map (widen low high) blocks) later _ [] (told-in low high x p blocks h (omega arith)) (told-below x p (omega arith) r) ∙ append-nil (told p blocks))
-              (subst (λ (m : L). Tells m (told p blocks)) (c x h (omega arith) p i) (inner-tells (at f low) blocks p inner i))
-        ]
+  module _
+      (ns : List ℕ)
+      (Inner : Lister L)
+      (n : ℕ)
+      (inner-tells : (f : Packet → L) (bs : List (Listed L)) (p : Packet) → Inner f bs → InRange ns p → Tells good (f p) (told p bs))
+    where
+      runs-tell : (f : Packet → L) (x : ℕ) (p : Packet) {low : ℕ} {bs : List (Listed L)} → low ≤ x → x < n → InRange ns p → Runs ns Inner n f low bs
+          → Tells good (f (x ∷ p)) (told (x ∷ p) bs)
+      runs-tell f x p h l i (no-more a) = absurd (omega arith)
+      runs-tell f x p h l i (run {low} {high} {blocks} {later} a b c d inner r) =
+          elim (decLt high x) [
+            | yes past ↦
+                tells-same (joined (x ∷ p) (map (widen low high) blocks) later [] _ (told-out low high x p blocks (λ w. omega (arith, w .1))) refl)
+                (runs-tell f x p past l i r)
+            | no here ↦
+                tells-same (joined (x ∷ p) (map (widen low high) blocks) later _ [] (told-in low high x p blocks h (omega arith)) (told-below x p (omega arith) r) ∙ append-nil (told p blocks))
+                (subst (λ (m : L). Tells good m (told p blocks)) (c x h (omega arith) p i) (inner-tells (at f low) blocks p inner i))
+          ]
 
-  last-tells : {l : L} {bs : List (Listed L)} → Last good l bs → Tells l (told [] bs)
+  last-tells : {l : L} {bs : List (Listed L)} → Last good l bs → Tells good l (told [] bs)
   unfolding told holds
   last-tells (is-good g) = tells-good g refl
   last-tells (at-fault h) = tells-fault h refl
 
   -- each packet at fault lies in exactly one block, which carries its label; a good packet lies in none
-  pub listing-tells : (ns : List ℕ) (f : Packet → L) (bs : List (Listed L)) (p : Packet) → Listing good ns f bs → InRange ns p → Tells (f p) (told p bs)
+  pub listing-tells : (ns : List ℕ) (f : Packet → L) (bs : List (Listed L)) (p : Packet) → Listing good ns f bs → InRange ns p
+      → Tells good (f p) (told p bs)
   listing-tells [] f bs p a range-none = last-tells a
   listing-tells (n ∷ ns) f bs p a (range-more {x} {p = q} h i) = runs-tell ns (Listing good ns) n (listing-tells ns) f x q (omega arith) h i a
 
   -- and nothing else lies in any
-  module _ (ns : List ℕ) (Inner : (Packet → L) → List (Listed L) → Type 0) (n : ℕ) (inner-silent : (f : Packet → L) (bs : List (Listed L)) (p : Packet) → Inner f bs → ¬ InRange ns p → told p bs ≡ []) where
-    runs-silent : (f : Packet → L) (p : Packet) {low : ℕ} {bs : List (Listed L)} → ¬ InRange (n ∷ ns) p → Runs ns Inner n f low bs → told p bs ≡ []
-    unfolding told
-    runs-silent f p h (no-more a) = refl
-    runs-silent f [] h (run {low} {high} {blocks} {later} a b c d inner r) =
-        joined [] (map (widen low high) blocks) later [] [] (told-short low high blocks) (runs-silent f [] h r)
-    runs-silent f (x ∷ p) h (run {low} {high} {blocks} {later} a b c d inner r) =
-        joined (x ∷ p) (map (widen low high) blocks) later [] [] this (runs-silent f (x ∷ p) h r)
-      where
-        this : told (x ∷ p) (map (widen low high) blocks) ≡ []
-        this =
-            elim (decLe low x) [
-              | yes l ↦ elim (decLe x high) [
-                | yes m ↦
-                    told-in low high x p blocks l m
-                    ∙ inner-silent (at f low) blocks p inner (λ i. h (range-more {n = n} {x = x} (omega arith) i))
-                | no m ↦ told-out low high x p blocks (λ w. m (w .1))
+  module _
+      (ns : List ℕ)
+      (Inner : Lister L)
+      (n : ℕ)
+      (inner-silent : (f : Packet → L) (bs : List (Listed L)) (p : Packet) → Inner f bs → ¬ InRange ns p → told p bs ≡ [])
+    where
+      runs-silent : (f : Packet → L) (p : Packet) {low : ℕ} {bs : List (Listed L)} → ¬ InRange (n ∷ ns) p → Runs ns Inner n f low bs → told p bs ≡ []
+      unfolding told
+      runs-silent f p h (no-more a) = refl
+      runs-silent f [] h (run {low} {high} {blocks} {later} a b c d inner r) =
+          joined [] (map (widen low high) blocks) later [] [] (told-short low high blocks) (runs-silent f [] h r)
+      runs-silent f (x ∷ p) h (run {low} {high} {blocks} {later} a b c d inner r) =
+          joined (x ∷ p) (map (widen low high) blocks) later [] [] this (runs-silent f (x ∷ p) h r)
+        where
+          this : told (x ∷ p) (map (widen low high) blocks) ≡ []
+          this =
+              elim (decLe low x) [
+                | yes l ↦ elim (decLe x high) [
+                  | yes m ↦
+                      told-in low high x p blocks l m
+                      ∙ inner-silent (at f low) blocks p inner (λ i. h (range-more {n = n} {x = x} (omega arith) i))
+                  | no m ↦ told-out low high x p blocks (λ w. m (w .1))
+                ]
+                | no l ↦ told-out low high x p blocks (λ w. l (w .0))
               ]
-              | no l ↦ told-out low high x p blocks (λ w. l (w .0))
-            ]
 
   last-silent : {l : L} {bs : List (Listed L)} (p : Packet) → ¬ InRange [] p → Last good l bs → told p bs ≡ []
   unfolding told holds
@@ -120,14 +127,15 @@ module _ {L : Type 0} (good : L) where
   listing-silent [] f bs p a h = last-silent p h a
   listing-silent (n ∷ ns) f bs p a h = runs-silent ns (Listing good ns) n (listing-silent ns) f p h a
 
-  tells-once : {l m : L} {ls : List L} → Tells l ls → Tells m ls → l ≡ m
+  tells-once : {l m : L} {ls : List L} → Tells good l ls → Tells good m ls → l ≡ m
   tells-once (tells-good a s) (tells-good b t) = a ∙ sym b
   tells-once (tells-good a s) (tells-fault b t) = absurd (nil≢cons (sym s ∙ t))
   tells-once (tells-fault a s) (tells-good b t) = absurd (nil≢cons (sym t ∙ s))
   tells-once (tells-fault a s) (tells-fault b t) = head-eq-of-cons-eq (sym s ∙ t)
 
   -- two label functions have the same listing just if they agree at every packet
-  pub same-listing-iff-agree : (ns : List ℕ) (f g : Packet → L) (bs cs : List (Listed L)) → Listing good ns f bs → Listing good ns g cs → (bs ≡ cs) ↔ Agree ns f g
+  pub same-listing-iff-agree : (ns : List ℕ) (f g : Packet → L) (bs cs : List (Listed L)) → Listing good ns f bs → Listing good ns g cs
+      → (bs ≡ cs) ↔ Agree ns f g
   same-listing-iff-agree ns f g bs cs a b = (
     λ e p i. tells-once (listing-tells ns f bs p a i) (tells-same (ap (told p) e) (listing-tells ns g cs p b i)),
     listing-is-unique good ns f g bs cs a b,

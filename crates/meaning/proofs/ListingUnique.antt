@@ -4,7 +4,7 @@ use mathlib.Core.List.{List, [], _∷_}
 use Prim.Native.Nat.{ℕ, suc, _≤_, _<_}
 use native.Mathlib.Omega.{arith}
 use Rattle.meaning.specs.Fields.{Packet, range-none, range-more}
-use Rattle.meaning.specs.Listings.{Listed, at, Agree, Runs, no-more, run, Last, is-good, at-fault, Listing}
+use Rattle.meaning.specs.Listings.{Listed, Lister, at, Agree, Runs, no-more, run, Last, is-good, at-fault, Listing}
 
 module _ {L : Type 0} {ns : List ℕ} where
   pub agree-refl : (f : Packet → L) → Agree ns f f
@@ -42,17 +42,24 @@ module _ {L : Type 0} (ns : List ℕ) (n : ℕ) where
       let not-more = no-shorter g f (λ x h. agree-sym (fg x h)) low next high b a in
       omega arith
 
-module _ {L : Type 0} (ns : List ℕ) (Inner : (Packet → L) → List (Listed L) → Type 0) (n : ℕ) (inner-unique : (f g : Packet → L) (bs cs : List (Listed L)) → Inner f bs → Inner g cs → Agree ns f g → bs ≡ cs) where
-  runs-unique : (f g : Packet → L) → ((x : ℕ) → x < n → Agree ns (at f x) (at g x)) → {low : ℕ} {bs cs : List (Listed L)} → Runs ns Inner n f low bs → Runs ns Inner n g low cs → bs ≡ cs
-  runs-unique f g fg (no-more a) (no-more b) = refl
-  runs-unique f g fg (no-more a) (run b c d e i r) = absurd (omega arith)
-  runs-unique f g fg (run b c d e i r) (no-more a) = absurd (omega arith)
-  runs-unique f g fg (run {low} {high} {blocks = bs} {later = cs} a b c d i r) (run {high = next} {blocks = bs′} {later = cs′} a′ b′ c′ d′ i′ r′) =
-      let end : high ≡ next =
-      same-end ns n f g fg low high next (record { rises = a; below = b; agrees = c; stops = d }) (record { rises = a′; below = b′; agrees = c′; stops = d′ }) in
-      let inner : bs ≡ bs′ = inner-unique (at f low) (at g low) bs bs′ i i′ (fg low (omega arith)) in
-      let rest : cs ≡ cs′ = runs-unique f g fg r (subst (λ (h : ℕ). Runs ns Inner n g (suc h) cs′) (sym end) r′) in
-      cc
+module _
+    {L : Type 0}
+    (ns : List ℕ)
+    (Inner : Lister L)
+    (n : ℕ)
+    (inner-unique : (f g : Packet → L) (bs cs : List (Listed L)) → Inner f bs → Inner g cs → Agree ns f g → bs ≡ cs)
+  where
+    runs-unique : (f g : Packet → L) → ((x : ℕ) → x < n → Agree ns (at f x) (at g x)) → {low : ℕ} {bs cs : List (Listed L)} → Runs ns Inner n f low bs
+        → Runs ns Inner n g low cs → bs ≡ cs
+    runs-unique f g fg (no-more a) (no-more b) = refl
+    runs-unique f g fg (no-more a) (run b c d e i r) = absurd (omega arith)
+    runs-unique f g fg (run b c d e i r) (no-more a) = absurd (omega arith)
+    runs-unique f g fg (run {low} {high} {blocks = bs} {later = cs} a b c d i r) (run {high = next} {blocks = bs′} {later = cs′} a′ b′ c′ d′ i′ r′) =
+        let end : high ≡ next =
+        same-end ns n f g fg low high next (record { rises = a; below = b; agrees = c; stops = d }) (record { rises = a′; below = b′; agrees = c′; stops = d′ }) in
+        let inner : bs ≡ bs′ = inner-unique (at f low) (at g low) bs bs′ i i′ (fg low (omega arith)) in
+        let rest : cs ≡ cs′ = runs-unique f g fg r (subst (λ (h : ℕ). Runs ns Inner n g (suc h) cs′) (sym end) r′) in
+        cc
 
 module _ {L : Type 0} (good : L) where
   last-unique : {l m : L} {bs cs : List (Listed L)} → Last good l bs → Last good m cs → l ≡ m → bs ≡ cs
@@ -61,6 +68,7 @@ module _ {L : Type 0} (good : L) where
   last-unique (at-fault a) (is-good b) e = absurd (a (e ∙ b))
   last-unique (at-fault a) (at-fault b) e = rw e
 
-  pub listing-is-unique : (ns : List ℕ) (f g : Packet → L) (bs cs : List (Listed L)) → Listing good ns f bs → Listing good ns g cs → Agree ns f g → bs ≡ cs
+  pub listing-is-unique : (ns : List ℕ) (f g : Packet → L) (bs cs : List (Listed L)) → Listing good ns f bs → Listing good ns g cs → Agree ns f g
+      → bs ≡ cs
   listing-is-unique [] f g bs cs a b e = last-unique a b (e [] range-none)
   listing-is-unique (n ∷ ns) f g bs cs a b e = runs-unique ns (Listing good ns) n (listing-is-unique ns) f g (agree-at e) a b

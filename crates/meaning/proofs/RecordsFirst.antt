@@ -17,7 +17,8 @@ module _ {A : Type 0} (test : A → Bool) where
 
   data Scanned (n : ℕ) (xs : List A) : Type 0 where
     scanned-none : firstFrom n test xs ≡ nothing → some-of test xs ≡ false → ((k : ℕ) → NonePlaced xs k) → Scanned n xs
-    scanned-at : (k : ℕ) (x : A) → firstFrom n test xs ≡ found (n + k) x → some-of test xs ≡ true → getElem? xs k ≡ some x → T (test x) → NonePlaced xs k → Scanned n xs
+    scanned-at : (k : ℕ) (x : A) → firstFrom n test xs ≡ found (n + k) x → some-of test xs ≡ true → getElem? xs k ≡ some x → T (test x)
+        → NonePlaced xs k → Scanned n xs
 
   none-first : (x : A) (xs : List A) (k : ℕ) → ¬ T (test x) → NonePlaced xs k → NonePlaced (x ∷ xs) (suc k)
   none-first x xs k h before zero y l e = subst (λ (z : A). ¬ T (test z)) (Option·some-injective x y e) h

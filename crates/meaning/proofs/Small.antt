@@ -3,19 +3,19 @@ use mathlib.Core.Path.{_≡_, refl}
 use mathlib.Core.List.{List, [], _∷_}
 use Prim.Native.Nat.{ℕ}
 use Rattle.meaning.specs.Blocks.{within, holds}
-use Rattle.meaning.specs.Buffers.{bounds, row, rows, written}
+use Rattle.meaning.specs.Buffers.{FaultListing, bounds, row, rows, written}
 use Rattle.meaning.specs.Document.{range, only}
 use Rattle.meaning.specs.Labels.{Label, good, wrong, unasked, kind, rule, done, judged, label}
-use Rattle.meaning.specs.Listings.{Listed, Listing}
+use Rattle.meaning.specs.Listings.{Listed}
 use Rattle.meaning.specs.Policies.{Policy, excepted, asks, asked, asking}
 use Rattle.meaning.specs.Records.{some-of, firstFrom, numberOf}
 use Rattle.meaning.specs.Rules.{accept, opposite, same, Table, deciding}
+use Rattle.meaning.specs.Verdicts.{VerdictOn}
 use Rattle.meaning.proofs.VerdictFirst.{better, ahead, bestBelow, best}
 use Rattle.meaning.proofs.LabelKinds.{sameLabel, same-label-iff}
 use Rattle.meaning.proofs.ListingExists.{below, agree, lastFrom, runsFrom, listingOf, listing-computed}
 use Rattle.meaning.proofs.VerdictExists.{verdictFor, verdictOf, verdict-exists}
 use Rattle.meaning.proofs.VerdictRanks.{rankOf}
-use Rattle.meaning.proofs.VerdictConforms.{Judges}
 
 abbrev sizes : List ℕ
 sizes = 5 ∷ 4 ∷ []
@@ -36,11 +36,11 @@ blocks =
     ∷ record { block = only 4 ∷ only 3 ∷ []; label = unasked 2 }
     ∷ []
 
-pub small-listing : Listing good sizes (label table policy) blocks
+pub small-listing : FaultListing sizes table policy blocks
 unfolding listingOf runsFrom lastFrom agree below sameLabel kind rule label judged done asked asks excepted deciding firstFrom some-of holds within opposite same
 small-listing = listing-computed sameLabel same-label-iff good sizes (label table policy)
 
-pub small-verdict : Judges sizes table policy (record { label = wrong 1; accept-directive = 0; deny-directive = 1; packet = 2 ∷ 1 ∷ [] })
+pub small-verdict : VerdictOn sizes table policy (record { label = wrong 1; accept-directive = 0; deny-directive = 1; packet = 2 ∷ 1 ∷ [] })
 unfolding verdictOf verdictFor best bestBelow better ahead rankOf kind rule label judged done asked asks asking numberOf excepted deciding firstFrom some-of holds within opposite same
 small-verdict = verdict-exists sizes table policy
 

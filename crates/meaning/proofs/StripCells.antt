@@ -43,12 +43,6 @@ module _ (c : Cut) where
   pub strip-of : (x : ℕ) → x < c .size → InStrip x
   strip-of x h = look x (strips c) (omega arith) (rw (place-past {i = strips c} (omega arith)) h)
 
-  -- numbers and strips come in the same order
-  pub strip-mono : (i j x y : ℕ) → i < strips c → place c i ≤ x → y < place c (suc j) → x ≤ y → i ≤ j
-  strip-mono i j x y h a b l =
-      let no-jump : ¬ (j < i) = λ m. omega (arith, place-mono (suc j) i m (omega arith)) in
-      omega arith
-
 pub record CellOf (cs : List Cut) (p : Packet) : Type 0 where
   pub cell : List ℕ
   pub lies : InCell cs cell p
@@ -78,7 +72,8 @@ before-cases (sooner l) = inl l
 before-cases (level b) = inr (refl, b)
 
 -- what comes before a cell's corner lies in an earlier cell
-pub before-corner : (cs : List Cut) {cell other : List ℕ} {q : Packet} → InRange (counts cs) cell → InCell cs other q → Before q (corner cs cell) → Before other cell
+pub before-corner : (cs : List Cut) {cell other : List ℕ} {q : Packet} → InRange (counts cs) cell → InCell cs other q → Before q (corner cs cell)
+    → Before other cell
 unfolding corner
 before-corner [] range-none cell-none b = absurd (elim b [ ])
 before-corner (c ∷ cs) (range-more {x = i} {p = cell} h u) (cell-more {i = j} {x} {cell = other} {p = q} g lo hi s) b =
@@ -99,7 +94,8 @@ pub corner-is-least : (cs : List Cut) {cell : List ℕ} {q : Packet} → InCell 
 corner-is-least cs s b = before-differs (before-corner cs (cell-in-range s) s b) refl
 
 -- cells in order have their corners in order
-pub corners-in-order : (cs : List Cut) {cell other : List ℕ} → InRange (counts cs) cell → InRange (counts cs) other → Before cell other → Before (corner cs cell) (corner cs other)
+pub corners-in-order : (cs : List Cut) {cell other : List ℕ} → InRange (counts cs) cell → InRange (counts cs) other → Before cell other
+    → Before (corner cs cell) (corner cs other)
 unfolding corner
 corners-in-order [] range-none range-none b = b
 corners-in-order (c ∷ cs) (range-more {x = i} h u) (range-more {x = j} g v) (sooner l) =

@@ -49,7 +49,8 @@ same-side c i z x y w h a b l =
     let not-above : ¬ (i < w .strip) = λ m. omega (arith, w .is-place, place-mono c (suc i) (w .strip) m (w .is-strip)) in
     omega (arith, w .is-place, place-mono c (w .strip) i (omega arith) (omega arith))
 
-same-within : (c : Cut) (s : Span) (i x y : ℕ) → PlaceAt c (s .low) → PlaceAt c (suc (s .high)) → i < strips c → place c i ≤ x → x < place c (suc i) → place c i ≤ y → y < place c (suc i)
+same-within : (c : Cut) (s : Span) (i x y : ℕ) → PlaceAt c (s .low) → PlaceAt c (suc (s .high)) → i < strips c → place c i ≤ x → x < place c (suc i)
+    → place c i ≤ y → y < place c (suc i)
     → T (within s x) → T (within s y)
 same-within c s i x y low high h a b a′ b′ t =
     let w = within-iff s x .0 t in

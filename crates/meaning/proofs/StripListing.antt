@@ -4,7 +4,7 @@ use mathlib.Core.List.{List, [], _∷_, _++_, map}
 use Prim.Native.Nat.{ℕ, suc, _-_, _≤_, _<_}
 use native.Mathlib.Omega.{arith}
 use Rattle.meaning.specs.Fields.{Packet}
-use Rattle.meaning.specs.Listings.{Listed, at, Agree, widen, Runs, no-more, run, Last, is-good, at-fault, Listing}
+use Rattle.meaning.specs.Listings.{Listed, Lister, at, Agree, widen, Runs, no-more, run, Last, is-good, at-fault, Listing}
 use Rattle.meaning.specs.Strips.{Cut, strips, place, sizes, counts, cell-none, cell-more, corner, stretch, ByCells, lift}
 use Rattle.meaning.proofs.StripCells.{place-past, place-mono, place-size, strip-of, cell-of, packet-in-range, cell-in-range, corner-in-cell}
 
@@ -20,7 +20,7 @@ module _ {L : Type 0} (cs : List Cut) (h k f g : List ℕ → L) (hf : ByCells c
       let s = corner-in-cell cs i in
       sym (hf cell (corner cs cell) s) ∙ a (corner cs cell) (packet-in-range s) ∙ kg cell (corner cs cell) s
 
-module _ {L : Type 0} {ns : List ℕ} {Inner : (Packet → L) → List (Listed L) → Type 0} {n : ℕ} {f : Packet → L} where
+module _ {L : Type 0} {ns : List ℕ} {Inner : Lister L} {n : ℕ} {f : Packet → L} where
   -- a run that is over before `next`
   pub run-until : (low next : ℕ) (blocks later : List (Listed L))
       → low < next
@@ -62,23 +62,33 @@ module _ {L : Type 0} (c : Cut) (cs : List Cut) (h f : List ℕ → L) (hf : ByC
       (agree-lowers cs (at h i) (at h (suc j)) (at f (place c i)) (at f (place c (suc j))) (by-place i (omega arith)) (by-place (suc j) (omega arith)) e)
 
 module _ {L : Type 0} (c : Cut) (cs : List Cut) (i j : ℕ) where
-  lift-widen : (bs later : List (Listed L)) → map (lift (c ∷ cs)) (map (widen i j) bs ++ later) ≡ map (widen (place c i) (place c (suc j) - 1)) (map (lift cs) bs) ++ map (lift (c ∷ cs)) later
+  lift-widen : (bs later : List (Listed L))
+      → map (lift (c ∷ cs)) (map (widen i j) bs ++ later) ≡ map (widen (place c i) (place c (suc j) - 1)) (map (lift cs) bs) ++ map (lift (c ∷ cs)) later
   unfolding stretch
   lift-widen [] later = refl
   lift-widen (b ∷ bs) later = rw (lift-widen bs later)
 
-module _ {L : Type 0} (c : Cut) (cs : List Cut) (Inner Outer : (List ℕ → L) → List (Listed L) → Type 0) (inner-lifts : (h f : List ℕ → L) (bs : List (Listed L)) → ByCells cs h f → Inner h bs → Outer f (map (lift cs) bs)) (h f : List ℕ → L) (hf : ByCells (c ∷ cs) h f) where
-  runs-lift : {i : ℕ} {bs : List (Listed L)} → Runs (counts cs) Inner (strips c) h i bs → Runs (sizes cs) Outer (c .size) f (place c i) (map (lift (c ∷ cs)) bs)
-  runs-lift (no-more {low = i} a) = no-more {low = place c i} (omega (arith, place-past c a))
-  runs-lift (run {low = i} {high = j} {blocks} {later} a b all stop inner r) =
-      rw lift-widen
-      (run-until (place c i) (place c (suc j)) (map (lift cs) blocks) (map (lift (c ∷ cs)) later)
-      (omega (arith, place-mono c i j a (omega arith), c .rising j b))
-      (place-size c (suc j) b)
-      (run-lifts c cs h f hf i j a b all)
-      (stop-lifts c cs h f hf i j a b stop)
-      (inner-lifts (at h i) (at f (place c i)) blocks (by-place c cs h f hf i (omega arith)) inner)
-      (runs-lift r))
+module _
+    {L : Type 0}
+    (c : Cut)
+    (cs : List Cut)
+    (Inner Outer : Lister L)
+    (inner-lifts : (h f : List ℕ → L) (bs : List (Listed L)) → ByCells cs h f → Inner h bs → Outer f (map (lift cs) bs))
+    (h f : List ℕ → L)
+    (hf : ByCells (c ∷ cs) h f)
+  where
+    runs-lift : {i : ℕ} {bs : List (Listed L)} → Runs (counts cs) Inner (strips c) h i bs
+        → Runs (sizes cs) Outer (c .size) f (place c i) (map (lift (c ∷ cs)) bs)
+    runs-lift (no-more {low = i} a) = no-more {low = place c i} (omega (arith, place-past c a))
+    runs-lift (run {low = i} {high = j} {blocks} {later} a b all stop inner r) =
+        rw lift-widen
+        (run-until (place c i) (place c (suc j)) (map (lift cs) blocks) (map (lift (c ∷ cs)) later)
+        (omega (arith, place-mono c i j a (omega arith), c .rising j b))
+        (place-size c (suc j) b)
+        (run-lifts c cs h f hf i j a b all)
+        (stop-lifts c cs h f hf i j a b stop)
+        (inner-lifts (at h i) (at f (place c i)) blocks (by-place c cs h f hf i (omega arith)) inner)
+        (runs-lift r))
 
 module _ {L : Type 0} (good : L) where
   last-lifts : {l m : L} {bs : List (Listed L)} → l ≡ m → Last good l bs → Last good m (map (lift []) bs)
@@ -86,7 +96,8 @@ module _ {L : Type 0} (good : L) where
   last-lifts e (is-good g) = is-good (sym e ∙ g)
   last-lifts {l} e (at-fault h) = subst (λ (x : L). Last good x (record { block = []; label = l } ∷ [])) e (at-fault h)
 
-  pub listing-lifts : (cs : List Cut) (h f : List ℕ → L) (bs : List (Listed L)) → ByCells cs h f → Listing good (counts cs) h bs → Listing good (sizes cs) f (map (lift cs) bs)
+  pub listing-lifts : (cs : List Cut) (h f : List ℕ → L) (bs : List (Listed L)) → ByCells cs h f → Listing good (counts cs) h bs
+      → Listing good (sizes cs) f (map (lift cs) bs)
   listing-lifts [] h f bs hf a = last-lifts (sym (hf [] [] cell-none)) a
   listing-lifts (c ∷ cs) h f bs hf a =
       rw (c .from-zero) at (runs-lift c cs (Listing good (counts cs)) (Listing good (sizes cs)) (listing-lifts cs) h f hf a)

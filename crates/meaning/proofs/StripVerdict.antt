@@ -25,12 +25,21 @@ module _ (cs : List Cut) (r : List ℕ → ℕ) (s : Packet → ℕ) (rs : ByCel
       }
 
 -- the verdict on labels that are constant on strips: at the corner of the first cell of the lowest rank
-module _ (cs : List Cut) (f : Packet → Label) (asking : Action → Packet → ℕ) (f-by-cells : ByCells cs (λ cell. f (corner cs cell)) f) (b : ℕ) (numbered : (q : Packet) → InRange (sizes cs) q → Numbered b (f q)) (cell : List ℕ) (o : FirstOf (counts cs) (λ c. rank b (f (corner cs c))) cell) where
-  first-corner : FirstOf (sizes cs) (λ q. rank b (f q)) (corner cs cell)
-  first-corner = first-lifts cs (λ c. rank b (f (corner cs c))) (λ q. rank b (f q)) (λ c q s. ap (rank b) (f-by-cells c q s)) cell o
+module _
+    (cs : List Cut)
+    (f : Packet → Label)
+    (asking : Action → Packet → ℕ)
+    (by-cells : ByCells cs (λ cell. f (corner cs cell)) f)
+    (b : ℕ)
+    (numbered : (q : Packet) → InRange (sizes cs) q → Numbered b (f q))
+    (cell : List ℕ)
+    (o : FirstOf (counts cs) (λ c. rank b (f (corner cs c))) cell)
+  where
+    first-corner : FirstOf (sizes cs) (λ q. rank b (f q)) (corner cs cell)
+    first-corner = first-lifts cs (λ c. rank b (f (corner cs c))) (λ q. rank b (f q)) (λ c q s. ap (rank b) (by-cells c q s)) cell o
 
-  pub corner-is-verdict : ¬ (f (corner cs cell) ≡ good) → IsVerdict (sizes cs) f asking (verdictAt f asking (corner cs cell))
-  corner-is-verdict bad = first-is-verdict (sizes cs) f asking b numbered (corner cs cell) first-corner bad
+    pub corner-is-verdict : ¬ (f (corner cs cell) ≡ good) → IsVerdict (sizes cs) f asking (verdictAt f asking (corner cs cell))
+    corner-is-verdict bad = first-is-verdict (sizes cs) f asking b numbered (corner cs cell) first-corner bad
 
-  pub good-corner-conforms : f (corner cs cell) ≡ good → IsVerdict (sizes cs) f asking (conforms (sizes cs))
-  good-corner-conforms e = first-good-conforms (sizes cs) f asking b numbered (corner cs cell) first-corner e
+    pub good-corner-conforms : f (corner cs cell) ≡ good → IsVerdict (sizes cs) f asking (conforms (sizes cs))
+    good-corner-conforms e = first-good-conforms (sizes cs) f asking b numbered (corner cs cell) first-corner e

@@ -6,11 +6,11 @@ use Prim.Native.Nat.{ℕ}
 use native.Mathlib.Omega.{arith}
 use Rattle.meaning.specs.Conformance.{Consistent, Sound, Complete}
 use Rattle.meaning.specs.Fields.{Packet}
-use Rattle.meaning.specs.Labels.{Label, kind, rule, label}
+use Rattle.meaning.specs.Labels.{Label, kind, rule, label, OfKind}
 use Rattle.meaning.specs.Policies.{Policy, asking}
 use Rattle.meaning.specs.Rules.{Action, Rule}
-use Rattle.meaning.specs.Verdicts.{Verdict, None, conforms, Conflicts, Faults, Unmet, IsVerdict, case-conflict, case-rule, case-unmet, case-conforms}
-use Rattle.meaning.proofs.Conforming.{OfKind, consistent-iff-no-conflict, sound-iff-no-wrong-or-unasked, complete-iff-no-wrong-or-unmet}
+use Rattle.meaning.specs.Verdicts.{Verdict, None, conforms, Conflicts, Faults, Unmet, IsVerdict, case-conflict, case-rule, case-unmet, case-conforms, VerdictOn}
+use Rattle.meaning.proofs.Conforming.{consistent-iff-no-conflict, sound-iff-no-wrong-or-unasked, complete-iff-no-wrong-or-unmet}
 
 module _ (ns : List ℕ) (f : Packet → Label) (asking : Action → Packet → ℕ) where
   -- a verdict whose label is good is the fourth case
@@ -26,11 +26,7 @@ module _ (ns : List ℕ) (f : Packet → Label) (asking : Action → Packet → 
   conforms-means (case-conforms c r u) e = record { no-conflict = c; no-fault = r; no-unmet = u }
 
 module _ (ns : List ℕ) (rules : List Rule) (policy : Policy) where
-  -- the verdict on a table and a policy
-  abbrev pub Judges : Verdict → Type 0
-  Judges v = IsVerdict ns (label rules policy) (asking policy) v
-
-  pub conforms-iff-consistent-sound-complete : Judges (conforms ns) ↔ (Consistent ns policy × Sound ns rules policy × Complete ns rules policy)
+  pub conforms-iff-consistent-sound-complete : VerdictOn ns rules policy (conforms ns) ↔ (Consistent ns policy × Sound ns rules policy × Complete ns rules policy)
   unfolding kind
   conforms-iff-consistent-sound-complete = (
     λ v.

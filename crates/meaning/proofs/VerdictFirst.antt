@@ -37,7 +37,8 @@ IsBest ns r (some p) = FirstOf ns r p
 
 module _ (n : ℕ) (ns : List ℕ) where
   -- what holds of the packets whose first number is below n, and where it is n, holds below suc n
-  split : (P : Packet → Type 0) → ((q : Packet) → InRange (n ∷ ns) q → P q) → ((q : Packet) → InRange ns q → P (n ∷ q)) → (q : Packet) → InRange (suc n ∷ ns) q → P q
+  split : (P : Packet → Type 0) → ((q : Packet) → InRange (n ∷ ns) q → P q) → ((q : Packet) → InRange ns q → P (n ∷ q)) → (q : Packet)
+      → InRange (suc n ∷ ns) q → P q
   split P below here q (range-more {x} {p} h i) =
       elim (decLt x n) [ yes l ↦ below (x ∷ p) (range-more l i) | no l ↦ subst (λ (y : ℕ). P (y ∷ p)) (omega arith) (here p i) ]
 
@@ -90,7 +91,8 @@ only-empty r = record { in-range = range-none; lowest-rank = least; first = λ q
     least : (q : Packet) → InRange [] q → r [] ≤ r q
     least q range-none = omega arith
 
-below-is : (ns : List ℕ) (inner : (Packet → ℕ) → Option Packet) → ((r : Packet → ℕ) → IsBest ns r (inner r)) → (n : ℕ) (r : Packet → ℕ) → IsBest (n ∷ ns) r (bestBelow inner n r)
+below-is : (ns : List ℕ) (inner : (Packet → ℕ) → Option Packet) → ((r : Packet → ℕ) → IsBest ns r (inner r)) → (n : ℕ) (r : Packet → ℕ)
+    → IsBest (n ∷ ns) r (bestBelow inner n r)
 unfolding bestBelow
 below-is ns inner ih zero r = nothing-below
   where

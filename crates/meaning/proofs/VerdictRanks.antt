@@ -52,44 +52,52 @@ module _ (b : ℕ) (l : Label) where
   unfolding rankOf kind
   good-ranks e = by-kind 0 (ap kind e)
 
-module _ (ns : List ℕ) (f : Packet → Label) (asking : Action → Packet → ℕ) (b : ℕ) (numbered : (q : Packet) → InRange ns q → Numbered b (f q)) (p : Packet) (o : FirstOf ns (λ q. rank b (f q)) p) where
-  no-conflicts : 0 < rank b (f p) → None ns (Conflicts f)
-  no-conflicts h q i e = omega (arith, o .lowest-rank q i, conflict-ranks b (f q) e)
+module _
+    (ns : List ℕ)
+    (f : Packet → Label)
+    (asking : Action → Packet → ℕ)
+    (b : ℕ)
+    (numbered : (q : Packet) → InRange ns q → Numbered b (f q))
+    (p : Packet)
+    (o : FirstOf ns (λ q. rank b (f q)) p)
+  where
+    no-conflicts : 0 < rank b (f p) → None ns (Conflicts f)
+    no-conflicts h q i e = omega (arith, o .lowest-rank q i, conflict-ranks b (f q) e)
 
-  no-faults : b < rank b (f p) → (n : ℕ) → None ns (Faults f n)
-  no-faults h n q i w = omega (arith, o .lowest-rank q i, rule-ranks b (f q) (w .0), numbered q i (w .0) .1)
+    no-faults : b < rank b (f p) → (n : ℕ) → None ns (Faults f n)
+    no-faults h n q i w = omega (arith, o .lowest-rank q i, rule-ranks b (f q) (w .0), numbered q i (w .0) .1)
 
-  first-conflict : kind (f p) ≡ 1 → IsVerdict ns f asking (verdictAt f asking p)
-  first-conflict k =
-      case-conflict (record { in-range = o .in-range; is-such = k; none-before = λ q i l e. omega (arith, o .first q i l, conflict-ranks b (f q) e) })
+    first-conflict : kind (f p) ≡ 1 → IsVerdict ns f asking (verdictAt f asking p)
+    first-conflict k =
+        case-conflict (record { in-range = o .in-range; is-such = k; none-before = λ q i l e. omega (arith, o .first q i l, conflict-ranks b (f q) e) })
 
-  first-rule : Blaming (f p) → IsVerdict ns f asking (verdictAt f asking p)
-  first-rule w =
-      let e = rule-ranks b (f p) w in
-      case-rule (rule (f p)) (no-conflicts (omega (arith, e, numbered p (o .in-range) w .0)))
-      (λ m l q i v. omega (arith, e, o .lowest-rank q i, rule-ranks b (f q) (v .0), v .1))
-      (record {
-        in-range = o .in-range;
-        is-such = (w, refl);
-        none-before = λ q i l v. omega (arith, e, o .first q i l, rule-ranks b (f q) (v .0), v .1);
-      })
+    first-rule : Blaming (f p) → IsVerdict ns f asking (verdictAt f asking p)
+    first-rule w =
+        let e = rule-ranks b (f p) w in
+        case-rule (rule (f p)) (no-conflicts (omega (arith, e, numbered p (o .in-range) w .0)))
+        (λ m l q i v. omega (arith, e, o .lowest-rank q i, rule-ranks b (f q) (v .0), v .1))
+        (record {
+          in-range = o .in-range;
+          is-such = (w, refl);
+          none-before = λ q i l v. omega (arith, e, o .first q i l, rule-ranks b (f q) (v .0), v .1);
+        })
 
-  first-unmet : (kind (f p) ≡ 4) ⊎ (kind (f p) ≡ 5) → IsVerdict ns f asking (verdictAt f asking p)
-  first-unmet u =
-      let e = unmet-ranks b (f p) u in
-      case-unmet (no-conflicts (omega (arith, e))) (no-faults (omega (arith, e)))
-      (record { in-range = o .in-range; is-such = u; none-before = λ q i l v. omega (arith, e, o .first q i l, unmet-ranks b (f q) v) })
+    first-unmet : (kind (f p) ≡ 4) ⊎ (kind (f p) ≡ 5) → IsVerdict ns f asking (verdictAt f asking p)
+    first-unmet u =
+        let e = unmet-ranks b (f p) u in
+        case-unmet (no-conflicts (omega (arith, e))) (no-faults (omega (arith, e)))
+        (record { in-range = o .in-range; is-such = u; none-before = λ q i l v. omega (arith, e, o .first q i l, unmet-ranks b (f q) v) })
 
-  pub first-is-verdict : ¬ (f p ≡ good) → IsVerdict ns f asking (verdictAt f asking p)
-  first-is-verdict bad = from (kinds (f p))
-    where
-      from : Kinds (f p) → IsVerdict ns f asking (verdictAt f asking p)
-      from (is-conflict k) = first-conflict k
-      from (is-blaming w) = first-rule w
-      from (is-unmet u) = first-unmet u
-      from (is-good e) = absurd (bad e)
+    pub first-is-verdict : ¬ (f p ≡ good) → IsVerdict ns f asking (verdictAt f asking p)
+    first-is-verdict bad = from (kinds (f p))
+      where
+        from : Kinds (f p) → IsVerdict ns f asking (verdictAt f asking p)
+        from (is-conflict k) = first-conflict k
+        from (is-blaming w) = first-rule w
+        from (is-unmet u) = first-unmet u
+        from (is-good e) = absurd (bad e)
 
-  pub first-good-conforms : f p ≡ good → IsVerdict ns f asking (conforms ns)
-  first-good-conforms e =
-      let r = good-ranks b (f p) e in
-      case-conforms (no-conflicts (omega (arith, r))) (no-faults (omega (arith, r))) (λ q i u. omega (arith, r, o .lowest-rank q i, unmet-ranks b (f q) u))
+    pub first-good-conforms : f p ≡ good → IsVerdict ns f asking (conforms ns)
+    first-good-conforms e =
+        let r = good-ranks b (f p) e in
+        case-conforms (no-conflicts (omega (arith, r))) (no-faults (omega (arith, r))) (λ q i u. omega (arith, r, o .lowest-rank q i, unmet-ranks b (f q) u))

@@ -1,10 +1,15 @@
--- The listing in a lent buffer of numbers.
+-- The fault listing of a table and a policy, and the lent buffer that takes it.
 use mathlib.Core.List.{List, [], _∷_, _++_}
 use Prim.Native.Nat.{ℕ, _+_, _*_, _/_}
 use lib.ListN.{length, take, drop}
 use Rattle.meaning.specs.Blocks.{Block}
-use Rattle.meaning.specs.Labels.{Label, kind, rule}
-use Rattle.meaning.specs.Listings.{Listed}
+use Rattle.meaning.specs.Labels.{Label, good, kind, rule, label}
+use Rattle.meaning.specs.Listings.{Listed, Listing}
+use Rattle.meaning.specs.Policies.{Policy}
+use Rattle.meaning.specs.Rules.{Table}
+
+abbrev pub FaultListing : List ℕ → Table → Policy → List (Listed Label) → Type 0
+FaultListing ns rules policy blocks = Listing good ns (label rules policy) blocks
 
 -- "Low and high of source, destination, protocol, port."
 unfoldable pub bounds : Block → List ℕ
@@ -27,6 +32,10 @@ rowLength ns = 2 + 2 * length ns
 abbrev pub room : List ℕ → List ℕ → ℕ
 room ns buffer = length buffer / rowLength ns
 
--- "The first blocks that fit are written from the front; every other number keeps its old value."
+-- numbers written from the front of a buffer; every other number keeps its old value
+abbrev pub over : List ℕ → List ℕ → List ℕ
+over front buffer = front ++ drop (length front) buffer
+
+-- "The first blocks that fit are written from the front."
 unfoldable pub written : List ℕ → List (Listed Label) → List ℕ → List ℕ
-written ns blocks buffer = rows (take (room ns buffer) blocks) ++ drop (length (rows (take (room ns buffer) blocks))) buffer
+written ns blocks buffer = over (rows (take (room ns buffer) blocks)) buffer

@@ -1,4 +1,5 @@
 -- The label of a packet, by document 01's table of kinds.
+use mathlib.Core.Path.{_≡_}
 use mathlib.Core.Bool.{Bool, true, false}
 use Prim.Native.Nat.{ℕ}
 use Rattle.meaning.specs.Fields.{Packet}
@@ -46,3 +47,7 @@ judged false false nothing = good
 
 unfoldable pub label : Table → Policy → Packet → Label
 label rules policy p = judged (asked policy accept p) (asked policy deny p) (deciding rules p)
+
+-- p is a packet of kind k
+abbrev pub OfKind : Table → Policy → ℕ → Packet → Type 0
+OfKind rules policy k p = kind (label rules policy p) ≡ k

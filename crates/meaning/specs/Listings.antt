@@ -12,6 +12,10 @@ pub record Listed (L : Type 0) : Type 0 where
   pub block : Block
   pub label : L
 
+-- says which blocks are listed for a label function
+abbrev pub Lister : Type 0 → Type 1
+Lister L = (Packet → L) → List (Listed L) → Type 0
+
 module _ {L : Type 0} where
   -- the labels f of the packets whose first number is x, as a function of the other numbers
   abbrev pub at : (Packet → L) → ℕ → Packet → L
@@ -25,15 +29,17 @@ module _ {L : Type 0} where
   abbrev pub widen : ℕ → ℕ → Listed L → Listed L
   widen low high b = record { block = record { low = low; high = high } ∷ b .block; label = b .label }
 
-  -- "Gather maximal runs of neighbours whose labels agree": from `low` on, the first field, of size n, falls into runs, and
-  -- the blocks are those that Inner gives for each run, as met. Inner lists the fields after the first, whose sizes are ns.
-  pub data Runs (ns : List ℕ) (Inner : (Packet → L) → List (Listed L) → Type 0) (n : ℕ) (f : Packet → L) : ℕ → List (Listed L) → Type 0 where
+  -- "Gather maximal runs of neighbours whose labels agree": the first field, of size n, falls into runs from `low` on. The
+  -- blocks are those that Inner lists for each run, as met; ns are the sizes of the fields that Inner is left with.
+  pub data Runs (ns : List ℕ) (Inner : Lister L) (n : ℕ) (f : Packet → L) : ℕ → List (Listed L) → Type 0 where
     no-more : {low : ℕ} → n ≤ low → Runs ns Inner n f low []
     run : {low high : ℕ} {blocks later : List (Listed L)}
         → low ≤ high
         → high < n
+        -- the run's numbers agree, and the neighbour after them, if there is one, does not
         → ((x : ℕ) → low ≤ x → x ≤ high → Agree ns (at f low) (at f x))
         → (suc high < n → ¬ Agree ns (at f low) (at f (suc high)))
+        -- its blocks, and those of the later runs
         → Inner (at f low) blocks
         → Runs ns Inner n f (suc high) later
         → Runs ns Inner n f low (map (widen low high) blocks ++ later)
@@ -45,7 +51,7 @@ module _ {L : Type 0} (good : L) where
     at-fault : ¬ (l ≡ good) → Last l (record { block = []; label = l } ∷ [])
 
   -- "Inside each run do the same" for the next field.
-  abbrev pub Listing : List ℕ → (Packet → L) → List (Listed L) → Type 0
+  abbrev pub Listing : List ℕ → Lister L
   Listing [] f blocks = Last (f []) blocks
   Listing (n ∷ ns) f blocks = Runs ns (Listing ns) n f 0 blocks
 
@@ -54,6 +60,11 @@ module _ {L : Type 0} where
   unfoldable pub told : Packet → List (Listed L) → List L
   told p [] = []
   told p (b ∷ bs) = cond (holds (b .block) p) (b .label ∷ told p bs) (told p bs)
+
+  -- what it has to tell of a packet whose label is l: nothing if l is good, and l, once, if it is not
+  pub data Tells (good l : L) (ls : List L) : Type 0 where
+    tells-good : l ≡ good → ls ≡ [] → Tells good l ls
+    tells-fault : ¬ (l ≡ good) → ls ≡ l ∷ [] → Tells good l ls
 
   -- "Order: as met, which is the order of the low corners": each block's comes before those of the later blocks.
   abbrev pub lowCorner : Listed L → Packet

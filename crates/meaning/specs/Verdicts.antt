@@ -4,8 +4,9 @@ use mathlib.Core.Logic.{_⊎_}
 use mathlib.Core.List.{List}
 use Prim.Native.Nat.{ℕ, _<_}
 use Rattle.meaning.specs.Fields.{Packet, InRange, Before, lowest}
-use Rattle.meaning.specs.Labels.{Label, good, kind, rule}
-use Rattle.meaning.specs.Rules.{Action, accept, deny}
+use Rattle.meaning.specs.Labels.{Label, good, kind, rule, label}
+use Rattle.meaning.specs.Policies.{Policy, asking}
+use Rattle.meaning.specs.Rules.{Action, accept, deny, Table}
 
 -- A label (kind and rule), the lowest directive asking accept and the lowest asking deny, and a packet.
 pub record Verdict : Type 0 where
@@ -53,3 +54,7 @@ pub data IsVerdict (ns : List ℕ) (f : Packet → Label) (asking : Action → P
       → IsVerdict ns f asking (verdictAt f asking p)
   -- 4. else conforms
   case-conforms : None ns (Conflicts f) → ((n : ℕ) → None ns (Faults f n)) → None ns (Unmet f) → IsVerdict ns f asking (conforms ns)
+
+-- The verdict on a table and a policy.
+abbrev pub VerdictOn : List ℕ → Table → Policy → Verdict → Type 0
+VerdictOn ns rules policy v = IsVerdict ns (label rules policy) (asking policy) v
