@@ -1,16 +1,16 @@
 -- What follows from form: a packet in form is in range, and exceptions in form lie inside their directives. Assumes nothing.
-use mathlib.Core.Path.{_≡_, refl, _∙_, ap, subst}
+use mathlib.Core.Path.{_≡_, refl, _∙_, ap, subst, sym}
 use mathlib.Core.Logic.{_⊎_, inl, inr, ⊎-elim, _↔_}
 use mathlib.Core.Bool.{_&&_}
 use mathlib.Core.List.{List, [], _∷_}
-use mathlib.Core.Option.{Option, some}
-use Prim.Native.Nat.{ℕ, suc, _+_, _-_, _<_}
+use mathlib.Core.Option.{Option, none, some, Option·some-injective, Option·none-ne-some}
+use Prim.Native.Nat.{ℕ, suc, _+_, _-_, _<_, _≤_}
 use native.Mathlib.Omega.{arith}
-use lib.Dec.{T, leb, ltb, eqb, le→leb, ltb→lt, lt→ltb, eqb→eq}
+use lib.Dec.{T, leb, ltb, eqb, le→leb, ltb→lt, lt→ltb, eqb→eq, leb→le}
 use lib.ListN.{getElem?, take}
-use Rattle.meaning.specs.Blocks.{Block, holds, Holds, inside, widest}
+use Rattle.meaning.specs.Blocks.{Span, Block, holds, Holds, inside, widest}
 use Rattle.meaning.specs.Fields.{Packet, InRange, range-none, range-more}
-use Rattle.meaning.specs.Form.{unrefused, outOfForm, orElse, RuleSet, table, Exception, PolicySet, naming, directivesFrom, policyOf, blockInForm, rulesInForm, insideOf, exceptionsInForm, policyInForm, packetInForm, refuseRules, refusePolicy, refusePacket, refuseSets, refuseLabel, mostRules, mostDirectives, mostExceptions}
+use Rattle.meaning.specs.Form.{orElse, RuleSet, table, Exception, PolicySet, naming, directivesFrom, policyOf, blockInForm, rulesInForm, insideOf, exceptionsInForm, policyInForm, packetInForm, refuseRules, refusePolicy, refusePacket, refuseSets, refuseLabel, mostRules, mostDirectives, mostExceptions}
 use Rattle.meaning.specs.Policies.{Directive, excepted, asks}
 use Rattle.meaning.specs.Records.{numbered, some-of, all-of, Every, every-none, every-more}
 use Rattle.meaning.specs.Rules.{Action, accept, deny, opposite, same, Rule}
@@ -32,6 +32,43 @@ form-of ns p (range-more {n} {x} {ns = ms} {p = q} h i) = both (ltb x n) (packet
 pub packet-in-form-iff : (ns : List ℕ) (p : Packet) → T (packetInForm ns p) ↔ InRange ns p
 packet-in-form-iff ns p = (range-of ns p, form-of ns p)
 
+-- what number 14 asks of a block, and of the first of the exceptions left, in which `before` is the directive named last
+pub block-in-form-iff : (n : ℕ) (ns : List ℕ) (s : Span) (b : Block)
+    → T (blockInForm (n ∷ ns) (s ∷ b)) ↔ ((s .low ≤ s .high) × (s .high < n) × T (blockInForm ns b))
+unfolding blockInForm
+block-in-form-iff n ns s b =
+    let rises = leb (s .low) (s .high) in
+    let fits = ltb (s .high) n in
+    let rest = blockInForm ns b in (
+      λ t. (leb→le _ _ (left rises fits (left (rises && fits) rest t)), ltb→lt _ _ (right rises fits (left (rises && fits) rest t)), right (rises && fits) rest t),
+      λ w. both (rises && fits) rest (both rises fits (le→leb _ _ (w .0)) (lt→ltb _ _ (w .1))) (w .2),
+    )
+
+inside-of-iff : (o : Option Rule) (b : Block) → T (insideOf o b) ↔ ((d : Rule) × (o ≡ some d) × T (inside b (d .block)))
+unfolding insideOf
+inside-of-iff none b = (λ t. absurd t, λ w. absurd (Option·none-ne-some (w .0) (w .1)))
+inside-of-iff (some d) b = (λ t. (d, refl, t), λ w. subst (λ (c : Rule). T (inside b (c .block))) (sym (Option·some-injective d (w .0) (w .1))) (w .2))
+
+pub exception-in-form-iff : (ns : List ℕ) (ds : List Rule) (before : ℕ) (e : Exception) (es : List Exception)
+    → T (exceptionsInForm ns ds before (e ∷ es))
+    ↔ ((before ≤ e .directive)
+    × ((d : Rule) × (numbered ds (e .directive) ≡ some d) × T (inside (e .block) (d .block)))
+    × T (blockInForm ns (e .block))
+    × T (exceptionsInForm ns ds (e .directive) es))
+unfolding exceptionsInForm
+exception-in-form-iff ns ds before e es =
+    let order = leb before (e .directive) in
+    let lies = insideOf (numbered ds (e .directive)) (e .block) in
+    let form = blockInForm ns (e .block) in
+    let rest = exceptionsInForm ns ds (e .directive) es in
+    let named = inside-of-iff (numbered ds (e .directive)) (e .block) in (
+      λ t.
+          let front = left (order && lies && form) rest t in
+          let first = left (order && lies) form front in
+          (leb→le _ _ (left order lies first), named .0 (right order lies first), right (order && lies) form front, right (order && lies && form) rest t),
+      λ w. both (order && lies && form) rest (both (order && lies) form (both order lies (le→leb _ _ (w .0)) (named .1 (w .1))) (w .2)) (w .3),
+    )
+
 -- a block in form lies inside the widest, so it holds packets in range alone
 pub form-inside-widest : (ns : List ℕ) (b : Block) → T (blockInForm ns b) → T (inside b (widest ns))
 unfolding blockInForm inside
@@ -39,31 +76,24 @@ form-inside-widest [] [] t = tt
 form-inside-widest [] (s ∷ b) t = absurd t
 form-inside-widest (n ∷ ns) [] t = absurd t
 form-inside-widest (n ∷ ns) (s ∷ b) t =
-    let ends = leb (s .low) (s .high) && ltb (s .high) n in
-    let high : s .high < n = ltb→lt (s .high) n (right (leb (s .low) (s .high)) (ltb (s .high) n) (left ends (blockInForm ns b) t)) in
+    let w = block-in-form-iff n ns s b .0 t in
     both (leb 0 (s .low) && leb (s .high) (n - 1)) (inside b (widest ns))
-    (both (leb 0 (s .low)) (leb (s .high) (n - 1)) (le→leb 0 (s .low) (omega arith)) (le→leb (s .high) (n - 1) (omega arith)))
-    (form-inside-widest ns b (right ends (blockInForm ns b) t))
+    (both (leb 0 (s .low)) (leb (s .high) (n - 1)) (le→leb 0 (s .low) (omega arith)) (le→leb (s .high) (n - 1) (omega (arith, w .1))))
+    (form-inside-widest ns b (w .2))
 
 -- the exceptions that name a directive lie inside it
 module _ (ns : List ℕ) (ds : List Rule) where
   inside-named : (n : ℕ) (d : Rule) → numbered ds n ≡ some d → (before : ℕ) (es : List Exception) → T (exceptionsInForm ns ds before es)
       → Every (λ b. T (inside b (d .block))) (naming n es)
-  unfolding exceptionsInForm naming insideOf
+  unfolding naming
   inside-named n d e before [] t = every-none
   inside-named n d e before (x ∷ es) t =
-      let order = leb before (x .directive) in
-      let lies = insideOf (numbered ds (x .directive)) (x .block) in
-      let form = blockInForm ns (x .block) in
-      let rest = exceptionsInForm ns ds (x .directive) es in
-      let more = inside-named n d e (x .directive) es (right (order && lies && form) rest t) in
+      let w = exception-in-form-iff ns ds before x es .0 t in
+      let more = inside-named n d e (x .directive) es (w .3) in
       elim (tested (eqb (x .directive) n)) [
         | yes u ↦
-            rw (passed (eqb (x .directive) n) u)
-            (every-more
-            (subst (λ (o : Option Rule). T (insideOf o (x .block))) (ap (numbered ds) (eqb→eq (x .directive) n u) ∙ e)
-            (right order lies (left (order && lies) form (left (order && lies && form) rest t))))
-            more)
+            let same : w .1 .0 ≡ d = Option·some-injective (w .1 .0) d (sym (w .1 .1) ∙ ap (numbered ds) (eqb→eq (x .directive) n u) ∙ e) in
+            rw (passed (eqb (x .directive) n) u) (every-more (subst (λ (c : Rule). T (inside (x .block) (c .block))) same (w .1 .2)) more)
         | no u ↦ rw (failed (eqb (x .directive) n) u) more
       ]
 
@@ -132,19 +162,19 @@ module _ (d : Directive) (p : Packet) where
 
 -- Rules are looked at first, then the policy, then the packet; records past the count are not looked at.
 module _ (ns : List ℕ) (rules : RuleSet) (policy : PolicySet) (p : Packet) where
-  pub rules-refused-first : ¬ T (rulesInForm ns rules) → refuseLabel ns rules policy p ≡ outOfForm 1
+  pub rules-refused-first : ¬ T (rulesInForm ns rules) → refuseLabel ns rules policy p ≡ record { number = 14; line = 1; field = 0 }
   unfolding refuseLabel refuseSets refuseRules orElse
   rules-refused-first h = rw (failed (rulesInForm ns rules) h)
 
-  pub policy-refused-next : T (rulesInForm ns rules) → ¬ T (policyInForm ns policy) → refuseLabel ns rules policy p ≡ outOfForm 2
+  pub policy-refused-next : T (rulesInForm ns rules) → ¬ T (policyInForm ns policy) → refuseLabel ns rules policy p ≡ record { number = 14; line = 2; field = 0 }
   unfolding refuseLabel refuseSets refuseRules refusePolicy orElse
   policy-refused-next t h = rw (passed (rulesInForm ns rules) t, failed (policyInForm ns policy) h)
 
-  pub packet-refused-last : T (rulesInForm ns rules) → T (policyInForm ns policy) → ¬ InRange ns p → refuseLabel ns rules policy p ≡ outOfForm 3
+  pub packet-refused-last : T (rulesInForm ns rules) → T (policyInForm ns policy) → ¬ InRange ns p → refuseLabel ns rules policy p ≡ record { number = 14; line = 3; field = 0 }
   unfolding refuseLabel refuseSets refuseRules refusePolicy refusePacket orElse
   packet-refused-last t u h = rw (passed (rulesInForm ns rules) t, passed (policyInForm ns policy) u, failed (packetInForm ns p) (λ v. h (range-of ns p v)))
 
-  pub in-form-unrefused : T (rulesInForm ns rules) → T (policyInForm ns policy) → InRange ns p → refuseLabel ns rules policy p ≡ unrefused
+  pub in-form-unrefused : T (rulesInForm ns rules) → T (policyInForm ns policy) → InRange ns p → refuseLabel ns rules policy p ≡ record { number = 0; line = 0; field = 0 }
   unfolding refuseLabel refuseSets refuseRules refusePolicy refusePacket orElse
   in-form-unrefused t u i = rw (passed (rulesInForm ns rules) t, passed (policyInForm ns policy) u, passed (packetInForm ns p) (form-of ns p i))
 

@@ -53,6 +53,16 @@ kind-zero l e = from (kinds l)
     from (is-blaming w) = absurd (not-blaming l 0 e tt w)
     from (is-unmet u) = absurd (not-lacking l 0 e tt (inr u))
 
+-- the rule number is 0 for the other kinds
+pub no-rule-unless-blaming : (l : Label) → ¬ Blaming l → rule l ≡ 0
+unfolding kind rule
+no-rule-unless-blaming good h = refl
+no-rule-unless-blaming conflict h = refl
+no-rule-unless-blaming (wrong n) h = absurd (h (inl refl))
+no-rule-unless-blaming (unasked n) h = absurd (h (inr refl))
+no-rule-unless-blaming unmet-accept h = refl
+no-rule-unless-blaming unmet-deny h = refl
+
 -- A label is its kind and its rule.
 unfoldable pub labelFrom : ℕ → ℕ → Label
 labelFrom zero n = good

@@ -2,7 +2,8 @@
 use mathlib.Core.Path.{_≡_, refl}
 use mathlib.Core.List.{List, [], _∷_}
 use Prim.Native.Nat.{ℕ}
-use Rattle.meaning.specs.Blocks.{within, holds}
+use lib.Dec.{T}
+use Rattle.meaning.specs.Blocks.{within, holds, widest, shares, narrowed, narrow, narrows, narrowAll, narrowsAll}
 use Rattle.meaning.specs.Buffers.{FaultListing, bounds, row, rows, written}
 use Rattle.meaning.specs.Document.{range, only}
 use Rattle.meaning.specs.Labels.{Label, good, wrong, unasked, kind, rule, done, judged, label}
@@ -48,3 +49,9 @@ small-verdict = verdict-exists sizes table policy
 pub small-buffer : written sizes blocks (9 ∷ 9 ∷ 9 ∷ 9 ∷ 9 ∷ 9 ∷ 8 ∷ 7 ∷ []) ≡ 2 ∷ 1 ∷ 2 ∷ 2 ∷ 1 ∷ 1 ∷ 8 ∷ 7 ∷ []
 unfolding written rows row bounds kind rule
 small-buffer = refl
+
+-- the widest block narrowed to sources 1 to 3, then to ports from 2 on; ports 3 to 2 fall and leave it as it is
+pub small-narrowing : T (narrowsAll ((0, range 1 3) ∷ (1, range 2 9) ∷ []) (widest sizes))
+    × (narrowAll ((0, range 1 3) ∷ (1, range 2 9) ∷ (1, range 3 2) ∷ []) (widest sizes) ≡ range 1 3 ∷ range 2 3 ∷ [])
+unfolding narrowsAll narrows shares narrowAll narrow narrowed
+small-narrowing = (tt, refl)

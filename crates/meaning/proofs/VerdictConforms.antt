@@ -1,13 +1,14 @@
 -- "Conforms" is the verdict just if the policy is consistent and the table sound and complete. Assumes nothing.
 use mathlib.Core.Path.{_≡_, refl}
 use mathlib.Core.Logic.{inl, inr, ⊎-elim, _↔_}
-use mathlib.Core.List.{List}
+use mathlib.Core.List.{List, [], _∷_}
 use Prim.Native.Nat.{ℕ}
 use native.Mathlib.Omega.{arith}
 use Rattle.meaning.specs.Conformance.{Consistent, Sound, Complete}
-use Rattle.meaning.specs.Fields.{Packet}
+use Rattle.meaning.specs.Fields.{Packet, lowest}
 use Rattle.meaning.specs.Labels.{Label, kind, rule, label, OfKind}
 use Rattle.meaning.specs.Policies.{Policy, asking}
+use Rattle.meaning.specs.Records.{Every, every-none, every-more}
 use Rattle.meaning.specs.Rules.{Action, Rule}
 use Rattle.meaning.specs.Verdicts.{Verdict, None, conforms, Conflicts, Faults, Unmet, IsVerdict, case-conflict, case-rule, case-unmet, case-conforms, VerdictOn}
 use Rattle.meaning.proofs.Conforming.{consistent-iff-no-conflict, sound-iff-no-wrong-or-unasked, complete-iff-no-wrong-or-unmet}
@@ -24,6 +25,20 @@ module _ (ns : List ℕ) (f : Packet → Label) (asking : Action → Packet → 
   conforms-means (case-rule n c l a) e = absurd (⊎-elim (λ (z : _ ≡ 2). omega arith) (λ (z : _ ≡ 3). omega arith) (a .is-such .0))
   conforms-means (case-unmet c r a) e = absurd (⊎-elim (λ (z : _ ≡ 4). omega arith) (λ (z : _ ≡ 5). omega arith) (a .is-such))
   conforms-means (case-conforms c r u) e = record { no-conflict = c; no-fault = r; no-unmet = u }
+
+-- all its numbers are 0
+pub conforms-all-zero : (ns : List ℕ)
+    → (kind (conforms ns .label) ≡ 0)
+    × (rule (conforms ns .label) ≡ 0)
+    × (conforms ns .accept-directive ≡ 0)
+    × (conforms ns .deny-directive ≡ 0)
+    × Every (λ x. x ≡ 0) (conforms ns .packet)
+unfolding kind rule
+conforms-all-zero ns = (refl, refl, refl, refl, zeros ns)
+  where
+    zeros : (ms : List ℕ) → Every (λ x. x ≡ 0) (lowest ms)
+    zeros [] = every-none
+    zeros (m ∷ ms) = every-more refl (zeros ms)
 
 module _ (ns : List ℕ) (rules : List Rule) (policy : Policy) where
   pub conforms-iff-consistent-sound-complete : VerdictOn ns rules policy (conforms ns) ↔ (Consistent ns policy × Sound ns rules policy × Complete ns rules policy)
