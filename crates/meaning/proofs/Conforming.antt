@@ -6,7 +6,7 @@ use Prim.Native.Nat.{ℕ}
 use native.Mathlib.Omega.{arith}
 use lib.Dec.{T}
 use Rattle.meaning.specs.Conformance.{Consistent, Matches, Sound, Complete}
-use Rattle.meaning.specs.Fields.{Packet}
+use Rattle.meaning.specs.Fields.{Packet, InRange}
 use Rattle.meaning.specs.Labels.{kind, label, OfKind}
 use Rattle.meaning.specs.Policies.{Policy, Asked}
 use Rattle.meaning.specs.Rules.{Action, accept, deny, opposite, same, Rule}
@@ -17,6 +17,17 @@ use Rattle.meaning.proofs.LabelCases.{matches-once, Only, Neither, Case
 -- a packet has A and not B, or B and not A
 abbrev OneOf : Type 0 → Type 0 → Type 0
 OneOf A B = (A × ¬ B) ⊎ (¬ A × B)
+
+over-packets : (ns : List ℕ) (A B : Packet → Type 0) → ((q : Packet) → InRange ns q → OneOf (A q) (B q)) → ((q : Packet) → InRange ns q → A q) ↔ None ns B
+over-packets ns A B each = (λ a q i. not-other (each q i) (a q i), λ h q i. other (each q i) (h q i))
+  where
+    not-other : {X Y : Type 0} → OneOf X Y → X → ¬ Y
+    not-other (inl w) x = w .1
+    not-other (inr w) x = absurd (w .0 x)
+
+    other : {X Y : Type 0} → OneOf X Y → ¬ Y → X
+    other (inl w) h = w .0
+    other (inr w) h = absurd (h (w .1))
 
 opposite-differs : (a : Action) → opposite a ≡ a → ⊥
 unfolding opposite same
@@ -99,26 +110,16 @@ module _ (rules : List Rule) (policy : Policy) where
         inl (λ b t. (i, r, u ∙ sym (only-this a b o t), m), not-lacking (label rules policy q) 0 (ap kind e) tt)
     by-lack h (is-let-be e n u) = inl (λ a t. absurd (neither-asked a n t), not-lacking (label rules policy q) 0 (ap kind e) tt)
 
-  -- from each packet to all
-  has-not : {A B : Type 0} → OneOf A B → A → ¬ B
-  has-not (inl w) a = w .1
-  has-not (inr w) a = absurd (w .0 a)
-
-  has : {A B : Type 0} → OneOf A B → ¬ B → A
-  has (inl w) h = w .0
-  has (inr w) h = absurd (h (w .1))
-
   pub consistent-iff-no-conflict : (ns : List ℕ) → Consistent ns policy ↔ None ns (OfKind rules policy 1)
-  consistent-iff-no-conflict ns =
-      (λ c q i. has-not (by-conflict q (label-cases rules policy q)) (c q i), λ h q i. has (by-conflict q (label-cases rules policy q)) (h q i))
+  consistent-iff-no-conflict ns = over-packets ns ConsistentAt (OfKind rules policy 1) (λ q i. by-conflict q (label-cases rules policy q))
 
   -- consistent or not
   pub sound-iff-no-wrong-or-unasked : (ns : List ℕ) → Sound ns rules policy ↔ None ns (λ q. OfKind rules policy 2 q ⊎ OfKind rules policy 3 q)
   sound-iff-no-wrong-or-unasked ns =
-      (λ s q i. has-not (by-blame q (label-cases rules policy q)) (s q i), λ h q i. has (by-blame q (label-cases rules policy q)) (h q i))
+      over-packets ns SoundAt (λ q. OfKind rules policy 2 q ⊎ OfKind rules policy 3 q) (λ q i. by-blame q (label-cases rules policy q))
 
   pub complete-iff-no-wrong-or-unmet : (ns : List ℕ) → Consistent ns policy
       → Complete ns rules policy ↔ None ns (λ q. OfKind rules policy 2 q ⊎ OfKind rules policy 4 q ⊎ OfKind rules policy 5 q)
   complete-iff-no-wrong-or-unmet ns c =
-      let at-peace = consistent-iff-no-conflict ns .0 c in
-      (λ s q i. has-not (by-lack q (at-peace q i) (label-cases rules policy q)) (s q i), λ h q i. has (by-lack q (at-peace q i) (label-cases rules policy q)) (h q i))
+      over-packets ns CompleteAt (λ q. OfKind rules policy 2 q ⊎ OfKind rules policy 4 q ⊎ OfKind rules policy 5 q)
+      (λ q i. by-lack q (consistent-iff-no-conflict ns .0 c q i) (label-cases rules policy q))

@@ -20,6 +20,7 @@ pub mod ListingOrder
 pub mod ListingExists
 pub mod ListingEmpty
 pub mod ListingCount
+pub mod Demands
 pub mod BufferWritten
 pub mod StripPlaces
 pub mod StripCells
