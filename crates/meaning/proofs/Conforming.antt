@@ -9,7 +9,7 @@ use Rattle.meaning.specs.Conformance.{Consistent, Matches, Sound, Comple
 use Rattle.meaning.specs.Fields.{Packet, InRange}
 use Rattle.meaning.specs.Labels.{kind, label, OfKind}
 use Rattle.meaning.specs.Policies.{Policy, Asked}
-use Rattle.meaning.specs.Rules.{Action, accept, deny, opposite, same, Rule}
+use Rattle.meaning.specs.Rules.{Action, accept, deny, opposite, same, Rule, Table}
 use Rattle.meaning.specs.Verdicts.{None}
 use Rattle.meaning.proofs.LabelKinds.{Blaming, Lacking, not-blaming, not-lacking}
 use Rattle.meaning.proofs.LabelCases.{matches-once, Only, Neither, Case, is-conflict, is-wrong, is-unasked, is-unmet-accept, is-unmet-deny, is-done, is-let-be, label-cases}
@@ -34,7 +34,7 @@ unfolding opposite same
 opposite-differs accept e = subst (λ (b : Action). T (same deny b)) e tt
 opposite-differs deny e = subst (λ (b : Action). T (same accept b)) e tt
 
-module _ (rules : List Rule) (policy : Policy) where
+module _ (rules : Table) (policy : Policy) where
   module _ (q : Packet) where
     abbrev Asks : Action → Type 0
     Asks a = Asked policy a q

@@ -1,7 +1,6 @@
 -- The label in the words of document 01's table of kinds. Assumes nothing.
 use mathlib.Core.Path.{_≡_, refl, sym, _∙_, ap}
 use mathlib.Core.Bool.{Bool, true, false}
-use mathlib.Core.List.{List}
 use mathlib.Core.Option.{Option·some-injective}
 use Prim.Native.Nat.{ℕ, suc, _<_}
 use native.Mathlib.Omega.{arith}
@@ -11,10 +10,10 @@ use Rattle.meaning.specs.Fields.{Packet}
 use Rattle.meaning.specs.Labels.{Label, good, conflict, wrong, unasked, unmet-accept, unmet-deny, done, judged, label}
 use Rattle.meaning.specs.Policies.{Policy, asked, Asked}
 use Rattle.meaning.specs.Records.{nothing, found, numbered}
-use Rattle.meaning.specs.Rules.{Action, accept, deny, opposite, Rule, deciding}
+use Rattle.meaning.specs.Rules.{Action, accept, deny, opposite, Rule, deciding, Table}
 use Rattle.meaning.proofs.RecordsFirst.{First, first-none, first-at, first-cases}
 
-module _ (rules : List Rule) (p : Packet) where
+module _ (rules : Table) (p : Packet) where
   -- what `deciding` finds is the rule of Definitions 1 and 2
   pub data Decided : Type 0 where
     undecided : deciding rules p ≡ nothing → ((i : ℕ) (r : Rule) → ¬ Matches rules p i r) → Decided
@@ -32,14 +31,14 @@ module _ (rules : List Rule) (p : Packet) where
       from (first-at i r e s is-rule t below) = decided i r e (record { is-rule = is-rule; holds-it = t; none-earlier = below })
 
 -- one rule so matches a packet
-pub matches-once : (rules : List Rule) (p : Packet) (i j : ℕ) (r s : Rule) → Matches rules p i r → Matches rules p j s → (i ≡ j) × (r ≡ s)
+pub matches-once : (rules : Table) (p : Packet) (i j : ℕ) (r s : Rule) → Matches rules p i r → Matches rules p j s → (i ≡ j) × (r ≡ s)
 matches-once rules p i j r s a b =
     let not-less : ¬ (i < j) = λ l. b .none-earlier i r l (a .is-rule) (a .holds-it) in
     let not-more : ¬ (j < i) = λ l. a .none-earlier j s l (b .is-rule) (b .holds-it) in
     let e : i ≡ j = omega arith in
     (e, Option·some-injective r s (sym (a .is-rule) ∙ ap (numbered rules) e ∙ b .is-rule))
 
-module _ (rules : List Rule) (policy : Policy) (p : Packet) where
+module _ (rules : Table) (policy : Policy) (p : Packet) where
   -- one action alone is asked
   pub record Only (a : Action) : Type 0 where
     pub this : Asked policy a p

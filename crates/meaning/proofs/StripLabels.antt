@@ -11,7 +11,7 @@ use Rattle.meaning.specs.Fields.{Packet}
 use Rattle.meaning.specs.Labels.{label}
 use Rattle.meaning.specs.Policies.{Directive, Policy, excepted, asks, asked, asking}
 use Rattle.meaning.specs.Records.{some-of, all-of, first, numberOf}
-use Rattle.meaning.specs.Rules.{Action, accept, deny, Rule, deciding}
+use Rattle.meaning.specs.Rules.{Action, accept, deny, Rule, deciding, Table}
 use Rattle.meaning.specs.Strips.{Cut, strips, place, InCell, cell-none, cell-more, corner, ByCells, isPlace, cutAt, cutForDirective, cutFor}
 use Rattle.meaning.proofs.StripCells.{place-past, place-mono, cell-in-range, corner-in-cell}
 use Rattle.meaning.proofs.RecordsFirst.{some-of-same, first-same}
@@ -79,7 +79,7 @@ module _ (cs : List Cut) {cell : List ℕ} {p q : Packet} (at-p : InCell cs cell
       some-of-same (cutAt cs) (λ b. holds b p) (λ b. holds b q) (λ b u. same-holds cs b u at-p at-q) (d .exceptions) (right (cutAt cs (d .block)) (all-of (cutAt cs) (d .exceptions)) t) in
       rw (own, except)
 
-  module _ (rules : List Rule) (policy : Policy) (t : T (cutFor cs rules policy)) where
+  module _ (rules : Table) (policy : Policy) (t : T (cutFor cs rules policy)) where
     rules-cut : T (all-of (λ (r : Rule). cutAt cs (r .block)) rules)
     unfolding cutFor
     rules-cut = left (all-of (λ (r : Rule). cutAt cs (r .block)) rules) (all-of (cutForDirective cs) (policy .directives)) t
@@ -106,7 +106,7 @@ module _ (cs : List Cut) {cell : List ℕ} {p q : Packet} (at-p : InCell cs cell
     same-label = rw (same-asked accept, same-asked deny, same-deciding)
 
 -- so each is what it is at the low corner of the packet's cell
-module _ (cs : List Cut) (rules : List Rule) (policy : Policy) (t : T (cutFor cs rules policy)) where
+module _ (cs : List Cut) (rules : Table) (policy : Policy) (t : T (cutFor cs rules policy)) where
   pub label-by-cells : ByCells cs (λ cell. label rules policy (corner cs cell)) (label rules policy)
   label-by-cells cell p s = same-label cs s (corner-in-cell cs (cell-in-range s)) rules policy t
 

@@ -9,7 +9,7 @@ use Rattle.meaning.specs.Fields.{Packet, lowest}
 use Rattle.meaning.specs.Labels.{Label, kind, rule, label, OfKind}
 use Rattle.meaning.specs.Policies.{Policy, asking}
 use Rattle.meaning.specs.Records.{Every, every-none, every-more}
-use Rattle.meaning.specs.Rules.{Action, Rule}
+use Rattle.meaning.specs.Rules.{Action, Table}
 use Rattle.meaning.specs.Verdicts.{Verdict, None, conforms, Conflicts, Faults, Unmet, IsVerdict, case-conflict, case-rule, case-unmet, case-conforms, VerdictOn}
 use Rattle.meaning.proofs.Conforming.{consistent-iff-no-conflict, sound-iff-no-wrong-or-unasked, complete-iff-no-wrong-or-unmet}
 
@@ -40,7 +40,7 @@ conforms-all-zero ns = (refl, refl, refl, refl, zeros ns)
     zeros [] = every-none
     zeros (m ∷ ms) = every-more refl (zeros ms)
 
-module _ (ns : List ℕ) (rules : List Rule) (policy : Policy) where
+module _ (ns : List ℕ) (rules : Table) (policy : Policy) where
   pub conforms-iff-consistent-sound-complete : VerdictOn ns rules policy (conforms ns) ↔ (Consistent ns policy × Sound ns rules policy × Complete ns rules policy)
   unfolding kind
   conforms-iff-consistent-sound-complete = (

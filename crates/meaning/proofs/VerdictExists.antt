@@ -12,7 +12,7 @@ use lib.ListN.{length}
 use Rattle.meaning.specs.Fields.{Packet, InRange}
 use Rattle.meaning.specs.Labels.{Label, kind, rule, label}
 use Rattle.meaning.specs.Policies.{Policy, asking}
-use Rattle.meaning.specs.Rules.{Action, Rule}
+use Rattle.meaning.specs.Rules.{Action, Table}
 use Rattle.meaning.specs.Verdicts.{Verdict, verdictAt, conforms, IsVerdict, case-conforms, VerdictOn}
 use Rattle.meaning.proofs.VerdictFirst.{best, IsBest, best-is}
 use Rattle.meaning.proofs.RecordsFirst.{number-within}
@@ -21,7 +21,7 @@ use Rattle.meaning.proofs.LabelCases.{Case, is-conflict, is-wrong, is-u
 use Rattle.meaning.proofs.VerdictRanks.{rank, Numbered, first-is-verdict, first-good-conforms}
 
 -- a rule that a label blames is one of the table
-pub label-numbered : (rules : List Rule) (policy : Policy) (q : Packet) → Numbered (length rules) (label rules policy q)
+pub label-numbered : (rules : Table) (policy : Policy) (q : Packet) → Numbered (length rules) (label rules policy q)
 unfolding kind rule
 label-numbered rules policy q w = from (label-cases rules policy q)
   where
@@ -58,6 +58,6 @@ module _ (ns : List ℕ) (f : Packet → Label) (asking : Action → Packet → 
             | no e ↦ rw (ne-eqb (kind (f p)) 0 e) (first-is-verdict ns f asking b numbered p o (λ g. e (ap kind g)))
           ]
 
-pub verdict-exists : (ns : List ℕ) (rules : List Rule) (policy : Policy)
+pub verdict-exists : (ns : List ℕ) (rules : Table) (policy : Policy)
     → VerdictOn ns rules policy (verdictOf ns (label rules policy) (asking policy) (length rules))
 verdict-exists ns rules policy = verdict-computed ns (label rules policy) (asking policy) (length rules) (λ q i. label-numbered rules policy q)
