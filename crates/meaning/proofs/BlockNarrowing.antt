@@ -7,9 +7,9 @@ use Prim.Native.Nat.{ℕ, zero, suc, _≤_, _<_, min, max}
 use native.Mathlib.Omega.{arith}
 use lib.Dec.{T, leb→le, le→leb}
 use lib.ListN.{getD}
-use Rattle.meaning.specs.Blocks.{Span, Block, within, holds, shared, shares, narrowed, narrow, narrows, bounded, narrowAll, narrowsAll}
+use Rattle.meaning.specs.Blocks.{Span, Block, within, holds, shared, shares, narrowSpan, narrow, narrows, bounded, narrowAll, narrowsAll}
 use Rattle.meaning.specs.Fields.{Packet}
-use Rattle.meaning.specs.Records.{all-of}
+use Rattle.meaning.specs.Records.{allOf}
 use Rattle.meaning.proofs.BlockHolding.{within-iff}
 use Rattle.meaning.proofs.Tests.{passed, failed, both, left, right, same-test}
 
@@ -26,18 +26,22 @@ module _ (s bounds : Span) where
         le→leb (max (s .low) (bounds .low)) (min (s .high) (bounds .high)) (omega (arith, a .0, a .1, b .0, b .1)),
   )
 
-  -- bounds that fall, and a span that falls, share nothing
-  pub falling-shares-none : bounds .high < bounds .low → ¬ T (shares s bounds)
+  -- bounds that fall share nothing, and a span that falls shares nothing
+  pub falling-bounds-share-none : bounds .high < bounds .low → ¬ T (shares s bounds)
   unfolding shares
-  falling-shares-none f t = let h : max (s .low) (bounds .low) ≤ min (s .high) (bounds .high) = leb→le _ _ t in omega arith
+  falling-bounds-share-none f t = let h : max (s .low) (bounds .low) ≤ min (s .high) (bounds .high) = leb→le _ _ t in omega arith
 
-  pub span-stays : ¬ T (shares s bounds) → narrowed s bounds ≡ s
-  unfolding narrowed
+  pub falling-span-shares-none : s .high < s .low → ¬ T (shares s bounds)
+  unfolding shares
+  falling-span-shares-none f t = let h : max (s .low) (bounds .low) ≤ min (s .high) (bounds .high) = leb→le _ _ t in omega arith
+
+  pub span-stays : ¬ T (shares s bounds) → narrowSpan s bounds ≡ s
+  unfolding narrowSpan
   span-stays h = rw (failed (shares s bounds) h)
 
-  pub narrowed-within : (x : ℕ) → T (shares s bounds) → within (narrowed s bounds) x ≡ (within s x && within bounds x)
-  unfolding narrowed
-  narrowed-within x t =
+  pub narrow-span-within : (x : ℕ) → T (shares s bounds) → within (narrowSpan s bounds) x ≡ (within s x && within bounds x)
+  unfolding narrowSpan
+  narrow-span-within x t =
       rw (passed (shares s bounds) t)
       (same-test (within (shared s bounds) x) (within s x && within bounds x)
       (λ u.
@@ -73,18 +77,18 @@ unfolding narrows narrow holds bounded
 narrow-holds k bounds [] p t = absurd t
 narrow-holds zero bounds (s ∷ b) [] t = refl
 narrow-holds zero bounds (s ∷ b) (x ∷ p) t =
-    ap (λ (u : Bool). u && holds b p) (narrowed-within s bounds x t) ∙ shift (within s x) (within bounds x) (holds b p)
+    ap (λ (u : Bool). u && holds b p) (narrow-span-within s bounds x t) ∙ shift (within s x) (within bounds x) (holds b p)
 narrow-holds (suc k) bounds (s ∷ b) [] t = refl
 narrow-holds (suc k) bounds (s ∷ b) (x ∷ p) t =
     ap (λ (u : Bool). within s x && u) (narrow-holds k bounds b p t) ∙ sym (and-assoc (within s x) (holds b p) (bounded k bounds p))
 
 -- one after another: exactly the packets that the block and all the bounds given hold
 pub narrow-all-holds : (given : List (ℕ × Span)) (b : Block) (p : Packet) → T (narrowsAll given b)
-    → holds (narrowAll given b) p ≡ (holds b p && all-of (λ (n : ℕ × Span). bounded (n .0) (n .1) p) given)
-unfolding narrowsAll narrowAll all-of
+    → holds (narrowAll given b) p ≡ (holds b p && allOf (λ (n : ℕ × Span). bounded (n .0) (n .1) p) given)
+unfolding narrowsAll narrowAll allOf
 narrow-all-holds [] b p t = sym (and-true (holds b p))
 narrow-all-holds (n ∷ given) b p t =
     let next = narrow (n .0) (n .1) b in
     narrow-all-holds given next p (right (narrows (n .0) (n .1) b) (narrowsAll given next) t)
-    ∙ ap (λ (u : Bool). u && all-of (λ (m : ℕ × Span). bounded (m .0) (m .1) p) given) (narrow-holds (n .0) (n .1) b p (left (narrows (n .0) (n .1) b) (narrowsAll given next) t))
-    ∙ and-assoc (holds b p) (bounded (n .0) (n .1) p) (all-of (λ (m : ℕ × Span). bounded (m .0) (m .1) p) given)
+    ∙ ap (λ (u : Bool). u && allOf (λ (m : ℕ × Span). bounded (m .0) (m .1) p) given) (narrow-holds (n .0) (n .1) b p (left (narrows (n .0) (n .1) b) (narrowsAll given next) t))
+    ∙ and-assoc (holds b p) (bounded (n .0) (n .1) p) (allOf (λ (m : ℕ × Span). bounded (m .0) (m .1) p) given)

@@ -9,7 +9,7 @@ use Rattle.meaning.specs.Conformance.{Consistent, Matches, Sound, Comple
 use Rattle.meaning.specs.Fields.{Packet, InRange}
 use Rattle.meaning.specs.Labels.{kind, label, OfKind}
 use Rattle.meaning.specs.Policies.{Policy, Asked}
-use Rattle.meaning.specs.Rules.{Action, accept, deny, opposite, same, Rule, Table}
+use Rattle.meaning.specs.Rules.{Action, accept, deny, opposite, sameAction, Rule, Table}
 use Rattle.meaning.specs.Verdicts.{None}
 use Rattle.meaning.proofs.LabelKinds.{Blaming, Lacking, not-blaming, not-lacking}
 use Rattle.meaning.proofs.LabelCases.{matches-once, Only, Neither, Case, is-conflict, is-wrong, is-unasked, is-unmet-accept, is-unmet-deny, is-done, is-let-be, label-cases}
@@ -30,9 +30,9 @@ over-packets ns A B each = (λ a q i. not-other (each q i) (a q i), λ h q i. ot
     other (inr w) h = absurd (h (w .1))
 
 opposite-differs : (a : Action) → opposite a ≡ a → ⊥
-unfolding opposite same
-opposite-differs accept e = subst (λ (b : Action). T (same deny b)) e tt
-opposite-differs deny e = subst (λ (b : Action). T (same accept b)) e tt
+unfolding opposite sameAction
+opposite-differs accept e = subst (λ (b : Action). T (sameAction deny b)) e tt
+opposite-differs deny e = subst (λ (b : Action). T (sameAction accept b)) e tt
 
 module _ (rules : Table) (policy : Policy) where
   module _ (q : Packet) where
@@ -49,19 +49,19 @@ module _ (rules : Table) (policy : Policy) where
     CompleteAt = (a : Action) → Asks a → (i : ℕ) × (r : Rule) × (r .action ≡ a) × Matches rules q i r
 
     -- what Only and Neither say of any action
-    only-this : (a b : Action) → Only rules policy q a → Asks b → b ≡ a
+    only-this : (a b : Action) → Only policy q a → Asks b → b ≡ a
     unfolding opposite
     only-this accept accept o t = refl
     only-this accept deny o t = absurd (o .not-other t)
     only-this deny accept o t = absurd (o .not-other t)
     only-this deny deny o t = refl
 
-    not-both : (a : Action) → Only rules policy q a → ConsistentAt
+    not-both : (a : Action) → Only policy q a → ConsistentAt
     unfolding opposite
     not-both accept o t u = o .not-other u
     not-both deny o t u = o .not-other t
 
-    neither-asked : (b : Action) → Neither rules policy q → ¬ Asks b
+    neither-asked : (b : Action) → Neither policy q → ¬ Asks b
     neither-asked accept n = n .no-accept
     neither-asked deny n = n .no-deny
 
@@ -72,7 +72,7 @@ module _ (rules : Table) (policy : Policy) where
     not-opposite : (a b : Action) → b ≡ opposite a → b ≡ a → ⊥
     not-opposite a b e f = opposite-differs a (sym e ∙ f)
 
-    by-conflict : Case rules policy q (label rules policy q) → OneOf ConsistentAt (OfKind rules policy 1 q)
+    by-conflict : Case rules policy q (label rules policy q) → OneOf ConsistentAt (OfKind (label rules policy) 1 q)
     unfolding kind
     by-conflict (is-conflict e a d) = inr (λ c. c a d, ap kind e)
     by-conflict (is-wrong a i r e o m u) = inl (not-both a o, λ z. omega (arith, ap kind e))
@@ -93,7 +93,7 @@ module _ (rules : Table) (policy : Policy) where
         inl (λ j s n. subst (λ (t : Rule). Asks (t .action)) (matches-once rules q i j r s m n .1) (subst Asks (sym u) (o .this)), not-blaming (label rules policy q) 0 (ap kind e) tt)
     by-blame (is-let-be e n u) = inl (λ i r m. absurd (u i r m), not-blaming (label rules policy q) 0 (ap kind e) tt)
 
-    by-lack : ¬ OfKind rules policy 1 q → Case rules policy q (label rules policy q) → OneOf CompleteAt (Lacking (label rules policy q))
+    by-lack : ¬ OfKind (label rules policy) 1 q → Case rules policy q (label rules policy q) → OneOf CompleteAt (Lacking (label rules policy q))
     unfolding kind
     by-lack h (is-conflict e a d) = absurd (h (ap kind e))
     by-lack h (is-wrong a i r e o m u) =
@@ -110,16 +110,16 @@ module _ (rules : Table) (policy : Policy) where
         inl (λ b t. (i, r, u ∙ sym (only-this a b o t), m), not-lacking (label rules policy q) 0 (ap kind e) tt)
     by-lack h (is-let-be e n u) = inl (λ a t. absurd (neither-asked a n t), not-lacking (label rules policy q) 0 (ap kind e) tt)
 
-  pub consistent-iff-no-conflict : (ns : List ℕ) → Consistent ns policy ↔ None ns (OfKind rules policy 1)
-  consistent-iff-no-conflict ns = over-packets ns ConsistentAt (OfKind rules policy 1) (λ q i. by-conflict q (label-cases rules policy q))
+  pub consistent-iff-no-conflict : (ns : List ℕ) → Consistent ns policy ↔ None ns (OfKind (label rules policy) 1)
+  consistent-iff-no-conflict ns = over-packets ns ConsistentAt (OfKind (label rules policy) 1) (λ q i. by-conflict q (label-cases rules policy q))
 
   -- consistent or not
-  pub sound-iff-no-wrong-or-unasked : (ns : List ℕ) → Sound ns rules policy ↔ None ns (λ q. OfKind rules policy 2 q ⊎ OfKind rules policy 3 q)
+  pub sound-iff-no-wrong-or-unasked : (ns : List ℕ) → Sound ns rules policy ↔ None ns (λ q. OfKind (label rules policy) 2 q ⊎ OfKind (label rules policy) 3 q)
   sound-iff-no-wrong-or-unasked ns =
-      over-packets ns SoundAt (λ q. OfKind rules policy 2 q ⊎ OfKind rules policy 3 q) (λ q i. by-blame q (label-cases rules policy q))
+      over-packets ns SoundAt (λ q. OfKind (label rules policy) 2 q ⊎ OfKind (label rules policy) 3 q) (λ q i. by-blame q (label-cases rules policy q))
 
   pub complete-iff-no-wrong-or-unmet : (ns : List ℕ) → Consistent ns policy
-      → Complete ns rules policy ↔ None ns (λ q. OfKind rules policy 2 q ⊎ OfKind rules policy 4 q ⊎ OfKind rules policy 5 q)
+      → Complete ns rules policy ↔ None ns (λ q. OfKind (label rules policy) 2 q ⊎ OfKind (label rules policy) 4 q ⊎ OfKind (label rules policy) 5 q)
   complete-iff-no-wrong-or-unmet ns c =
-      over-packets ns CompleteAt (λ q. OfKind rules policy 2 q ⊎ OfKind rules policy 4 q ⊎ OfKind rules policy 5 q)
+      over-packets ns CompleteAt (λ q. OfKind (label rules policy) 2 q ⊎ OfKind (label rules policy) 4 q ⊎ OfKind (label rules policy) 5 q)
       (λ q i. by-lack q (consistent-iff-no-conflict ns .0 c q i) (label-cases rules policy q))

@@ -1,18 +1,24 @@
--- Demands 2 and 3 of the user, as far as they speak of a table and a policy and not of a call. Assumes nothing.
+-- Demand 3 of the user, as far as it speaks of a table and a policy and not of a call (demand 2 is in VerdictConforms). Assumes nothing.
 use mathlib.Core.Path.{_≡_}
 use mathlib.Core.Logic.{_↔_}
 use mathlib.Core.List.{List, []}
-use Prim.Native.Nat.{ℕ}
-use Rattle.meaning.specs.Buffers.{FaultListing}
+use Prim.Native.Nat.{ℕ, _+_, _*_, _≤_}
+use lib.Dec.{T}
+use lib.ListN.{length}
 use Rattle.meaning.specs.Fields.{Packet, InRange}
+use Rattle.meaning.specs.Form.{mostRules, mostDirectives, mostExceptions}
 use Rattle.meaning.specs.Labels.{Label, good, label}
-use Rattle.meaning.specs.Listings.{Listed, told, Tells}
+use Rattle.meaning.specs.Listings.{Listed, told, Tells, FaultListing}
 use Rattle.meaning.specs.Policies.{Policy}
+use Rattle.meaning.specs.Records.{Every}
 use Rattle.meaning.specs.Rules.{Table}
+use Rattle.meaning.specs.Strips.{Cut, sizes, counts, corner, cutFor}
 use Rattle.meaning.proofs.LabelKinds.{sameLabel, same-label-iff}
+use Rattle.meaning.proofs.ListingCount.{four-fields-few}
 use Rattle.meaning.proofs.ListingExists.{listingOf, listing-computed}
 use Rattle.meaning.proofs.ListingTells.{listing-tells, listing-silent, same-listing-iff-agree}
 use Rattle.meaning.proofs.ListingUnique.{agree-refl, listing-is-unique}
+use Rattle.meaning.proofs.StripLabels.{label-by-cells}
 
 module _ (ns : List ℕ) (rules : Table) (policy : Policy) where
   -- Every table and policy have a fault listing, and only one.
@@ -34,3 +40,11 @@ pub same-listing-iff-same-labels : (ns : List ℕ) (rules others : Table) (polic
     → (bs ≡ cs)
     ↔ ((p : Packet) → InRange ns p → label rules policy p ≡ label others other p)
 same-listing-iff-same-labels ns rules others policy other bs cs a b = same-listing-iff-agree good ns (label rules policy) (label others other) bs cs a b
+
+-- and its bound, with the strips as a premise: fields cut at every end of a block, into no more strips than sets within their limits can make
+pub fault-listing-few : (cs : List Cut) (rules : Table) (policy : Policy) (bs : List (Listed Label)) → T (cutFor cs rules policy) → length cs ≡ 4
+    → Every (λ n. n ≤ 2 * (mostRules + mostDirectives + mostExceptions) + 1) (counts cs)
+    → FaultListing (sizes cs) rules policy bs
+    → length bs ≤ 10_617_447_681
+fault-listing-few cs rules policy bs t four few a =
+    four-fields-few sameLabel same-label-iff good cs (λ cell. label rules policy (corner cs cell)) (label rules policy) (label-by-cells cs rules policy t) bs four few a

@@ -6,15 +6,15 @@ use Prim.Native.Nat.{ℕ, _^_}
 use native.Mathlib.Omega.{arith}
 use lib.Dec.{T}
 use Rattle.meaning.specs.Blocks.{within, holds, inside}
-use Rattle.meaning.specs.Buffers.{FaultListing, bounds, row, rows}
+use Rattle.meaning.specs.Buffers.{bounds, row, rows, rowLength}
 use Rattle.meaning.specs.Document.{quad, only, block8443, handsets, rules, directive1, policy, verdictLine, blockLines, blockNumbers, rules4, Row, twelve}
 use Rattle.meaning.specs.Fields.{fields}
-use Rattle.meaning.specs.Form.{RuleSet, PolicySet, table, naming, directivesFrom, policyOf, blockInForm, rulesInForm, insideOf, exceptionsInForm, policyInForm}
-use Rattle.meaning.specs.Labels.{Label, good, kind, rule, done, judged, label}
-use Rattle.meaning.specs.Listings.{Listing}
-use Rattle.meaning.specs.Policies.{excepted, asks, asked, asking}
-use Rattle.meaning.specs.Records.{numbered, some-of, all-of, firstFrom, numberOf}
-use Rattle.meaning.specs.Rules.{accept, opposite, same, deciding}
+use Rattle.meaning.specs.Form.{RuleSet, PolicySet, tableOf, naming, directivesFrom, policyOf, blockInForm, rulesInForm, insideOf, exceptionsInForm, policyInForm}
+use Rattle.meaning.specs.Labels.{Label, good, kind, rule, judged, label}
+use Rattle.meaning.specs.Listings.{Listing, FaultListing}
+use Rattle.meaning.specs.Policies.{excepted, asks, asked, lowestAsking}
+use Rattle.meaning.specs.Records.{numbered, someOf, allOf, firstFrom, numberOf}
+use Rattle.meaning.specs.Rules.{accept, opposite, sameAction, deciding}
 use Rattle.meaning.specs.Strips.{Cut, counts, corner, stretch, lift, isPlace, cutAt, cutForDirective, cutFor}
 use Rattle.meaning.specs.Verdicts.{conforms, VerdictOn}
 use Rattle.meaning.proofs.VerdictFirst.{better, ahead, bestBelow, best, best-is}
@@ -23,15 +23,15 @@ use Rattle.meaning.proofs.ListingEmpty.{all-good-conforms}
 use Rattle.meaning.proofs.ListingExists.{below, agree, lastFrom, runsFrom, listingOf, listing-computed}
 use Rattle.meaning.proofs.StripVerdict.{corner-is-verdict}
 use Rattle.meaning.proofs.StripLabels.{label-by-cells}
-use Rattle.meaning.proofs.VerdictExists.{label-numbered}
+use Rattle.meaning.proofs.LabelCases.{label-numbered}
 use Rattle.meaning.proofs.StripListing.{listing-lifts}
 use Rattle.meaning.proofs.StripPlaces.{risingBelow, cutBy}
 use Rattle.meaning.proofs.VerdictRanks.{rankOf, rank, FirstOf}
 
 -- each row has the label that the document gives
-pub twelve-labels : T (all-of (λ (r : Row). sameLabel (label (r .table) (r .asked-by) (r .packet)) (r .expected)) twelve)
-unfolding all-of sameLabel kind rule label judged done asked asks excepted deciding firstFrom some-of holds within opposite same
-twelve-labels = tt
+pub twelve-labels : map (λ (r : Row). label (r .table) (r .asked-by) (r .packet)) twelve ≡ map (λ (r : Row). r .expected) twelve
+unfolding label judged asked asks excepted deciding firstFrom someOf holds within opposite sameAction
+twelve-labels = refl
 
 abbrev cuts : List Cut
 unfolding risingBelow
@@ -47,11 +47,11 @@ unfolding risingBelow
 cellLabel cell = label rules policy (corner cuts cell)
 
 blocks-computed : map (lift cuts) (listingOf sameLabel same-label-iff good (counts cuts) cellLabel) ≡ blockLines
-unfolding risingBelow listingOf runsFrom lastFrom agree below sameLabel kind rule label judged done asked asks excepted deciding firstFrom some-of holds within opposite same corner stretch
+unfolding risingBelow listingOf runsFrom lastFrom agree below sameLabel kind rule label judged asked asks excepted deciding firstFrom someOf holds within opposite sameAction corner stretch
 blocks-computed = refl
 
 rules-and-policy-cut : T (cutFor cuts rules policy)
-unfolding risingBelow cutFor cutForDirective cutAt isPlace all-of some-of
+unfolding risingBelow cutFor cutForDirective cutAt isPlace allOf someOf
 rules-and-policy-cut = tt
 
 -- the four blocks are the listing, over all packets
@@ -64,23 +64,26 @@ run-blocks =
 
 -- the cell of the verdict's packet
 first-cell : FirstOf (counts cuts) (λ cell. rank 3 (cellLabel cell)) (2 ∷ 2 ∷ 1 ∷ 1 ∷ [])
-unfolding risingBelow best bestBelow better ahead rankOf kind rule label judged done asked asks excepted deciding firstFrom some-of holds within opposite same corner
+unfolding risingBelow best bestBelow better ahead rankOf kind rule label judged asked asks excepted deciding firstFrom someOf holds within opposite sameAction corner
 first-cell = best-is (counts cuts) (λ cell. rank 3 (cellLabel cell))
 
 wrong-there : ¬ (cellLabel (2 ∷ 2 ∷ 1 ∷ 1 ∷ []) ≡ good)
-unfolding risingBelow kind label judged done asked asks excepted deciding firstFrom some-of holds within opposite same corner
+unfolding risingBelow kind label judged asked asks excepted deciding firstFrom someOf holds within opposite sameAction corner
 wrong-there e = omega (arith, ap kind e)
 
 -- the verdict line is the verdict, over all packets
 pub run-verdict : VerdictOn fields rules policy verdictLine
-unfolding risingBelow corner asking numberOf label judged done asked asks excepted deciding firstFrom some-of holds within opposite same
+unfolding risingBelow corner lowestAsking numberOf label judged asked asks excepted deciding firstFrom someOf holds within opposite sameAction
 run-verdict =
-    corner-is-verdict cuts (label rules policy) (asking policy) (label-by-cells cuts rules policy rules-and-policy-cut) 3 (λ q i. label-numbered rules policy q)
+    corner-is-verdict cuts (label rules policy) (lowestAsking policy) (label-by-cells cuts rules policy rules-and-policy-cut) 3 (λ q i. label-numbered rules policy q)
     (2 ∷ 2 ∷ 1 ∷ 1 ∷ [])
     first-cell
     wrong-there
 
--- and the numbers of its block lines are those of the blocks
+-- a block takes ten numbers, and those of the block lines are the blocks'
+pub ten-numbers : rowLength fields ≡ 10
+ten-numbers = refl
+
 pub run-numbers : rows blockLines ≡ blockNumbers
 unfolding rows row bounds kind rule
 run-numbers = refl
@@ -99,19 +102,19 @@ policySet =
     }
 
 pub run-in-form : T (rulesInForm fields ruleSet && policyInForm fields policySet)
-unfolding rulesInForm policyInForm exceptionsInForm insideOf inside blockInForm numbered all-of
+unfolding rulesInForm policyInForm exceptionsInForm insideOf inside blockInForm numbered allOf
 run-in-form = tt
 
-pub run-sets : (table ruleSet ≡ rules) × (policyOf policySet ≡ policy)
+pub run-sets : (tableOf ruleSet ≡ rules) × (policyOf policySet ≡ policy)
 unfolding policyOf directivesFrom naming
 run-sets = (refl, refl)
 
 -- "An empty table and an empty policy are in form; both empty conform."
 pub empty-in-form : (ns : List ℕ)
     → T (rulesInForm ns (record { count = 0; records = [] }) && policyInForm ns (record { directive-count = 0; directives = []; exception-count = 0; exceptions = [] }))
-unfolding rulesInForm policyInForm exceptionsInForm all-of
+unfolding rulesInForm policyInForm exceptionsInForm allOf
 empty-in-form ns = tt
 
 pub empty-conforms : (ns : List ℕ) → VerdictOn ns [] (record { directives = [] }) (conforms ns)
-unfolding label judged asked deciding firstFrom some-of
-empty-conforms ns = all-good-conforms ns (label [] (record { directives = [] })) (asking (record { directives = [] })) (λ q i. refl)
+unfolding label judged asked deciding firstFrom someOf
+empty-conforms ns = all-good-conforms ns (label [] (record { directives = [] })) (lowestAsking (record { directives = [] })) (λ q i. refl)

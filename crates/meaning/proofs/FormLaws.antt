@@ -3,18 +3,19 @@ use mathlib.Core.Path.{_≡_, refl, _∙_, ap, subst, sym}
 use mathlib.Core.Logic.{_⊎_, inl, inr, ⊎-elim, _↔_}
 use mathlib.Core.Bool.{_&&_}
 use mathlib.Core.List.{List, [], _∷_}
-use mathlib.Core.Option.{Option, none, some, Option·some-injective, Option·none-ne-some}
-use Prim.Native.Nat.{ℕ, suc, _+_, _-_, _<_, _≤_}
+use mathlib.Core.Option.{Option, none, some, Option·map, Option·some-injective, Option·none-ne-some}
+use Prim.Native.Nat.{ℕ, zero, suc, _+_, _-_, _<_, _≤_}
 use native.Mathlib.Omega.{arith}
 use lib.Dec.{T, leb, ltb, eqb, le→leb, ltb→lt, lt→ltb, eqb→eq, leb→le}
-use lib.ListN.{getElem?, take}
+use lib.ListN.{getElem?, take, length}
 use Rattle.meaning.specs.Blocks.{Span, Block, holds, Holds, inside, widest}
 use Rattle.meaning.specs.Fields.{Packet, InRange, range-none, range-more}
-use Rattle.meaning.specs.Form.{orElse, RuleSet, table, Exception, PolicySet, naming, directivesFrom, policyOf, blockInForm, rulesInForm, insideOf, exceptionsInForm, policyInForm, packetInForm, refuseRules, refusePolicy, refusePacket, refuseSets, refuseLabel, mostRules, mostDirectives, mostExceptions}
+use Rattle.meaning.specs.Form.{orElse, RuleSet, tableOf, Exception, PolicySet, naming, directivesFrom, policyOf, blockInForm, rulesInForm, insideOf, exceptionsInForm, policyInForm, packetInForm, refuseRules, refusePolicy, refusePacket, refuseSets, refuseLabel, mostRules, mostDirectives, mostExceptions}
 use Rattle.meaning.specs.Policies.{Directive, excepted, asks}
-use Rattle.meaning.specs.Records.{numbered, some-of, all-of, Every, every-none, every-more}
-use Rattle.meaning.specs.Rules.{Action, accept, deny, opposite, same, Rule}
+use Rattle.meaning.specs.Records.{numbered, someOf, allOf, Every, every-none, every-more}
+use Rattle.meaning.specs.Rules.{Action, accept, deny, opposite, sameAction, Rule}
 use Rattle.meaning.proofs.BlockHolding.{inside-holds}
+use Rattle.meaning.proofs.RecordsEvery.{all-of-iff}
 use Rattle.meaning.proofs.Tests.{tested, passed, failed, both, left, right, second}
 
 range-of : (ns : List ℕ) (p : Packet) → T (packetInForm ns p) → InRange ns p
@@ -69,6 +70,63 @@ exception-in-form-iff ns ds before e es =
       λ w. both (order && lies && form) rest (both (order && lies) form (both order lies (le→leb _ _ (w .0)) (named .1 (w .1))) (w .2)) (w .3),
     )
 
+-- what it asks of rules, and of a policy
+pub rules-in-form-iff : (ns : List ℕ) (s : RuleSet) → T (rulesInForm ns s) ↔ ((s .count ≤ 64) × Every (λ r. T (blockInForm ns (r .block))) (tableOf s))
+unfolding rulesInForm
+rules-in-form-iff ns s =
+    let few = leb (s .count) mostRules in
+    let blocks = allOf (λ (r : Rule). blockInForm ns (r .block)) (tableOf s) in
+    let each = all-of-iff (λ (r : Rule). blockInForm ns (r .block)) (tableOf s) in
+    (λ t. (leb→le _ _ (left few blocks t), each .0 (right few blocks t)), λ w. both few blocks (le→leb _ _ (w .0)) (each .1 (w .1)))
+
+pub policy-in-form-iff : (ns : List ℕ) (s : PolicySet)
+    → T (policyInForm ns s)
+    ↔ ((s .directive-count ≤ 32)
+    × (s .exception-count ≤ 64)
+    × Every (λ d. T (blockInForm ns (d .block))) (take (s .directive-count) (s .directives))
+    × T (exceptionsInForm ns (take (s .directive-count) (s .directives)) 0 (take (s .exception-count) (s .exceptions))))
+unfolding policyInForm
+policy-in-form-iff ns s =
+    let ds = take (s .directive-count) (s .directives) in
+    let few = leb (s .directive-count) mostDirectives in
+    let few-exceptions = leb (s .exception-count) mostExceptions in
+    let blocks = allOf (λ (d : Rule). blockInForm ns (d .block)) ds in
+    let rest = exceptionsInForm ns ds 0 (take (s .exception-count) (s .exceptions)) in
+    let each = all-of-iff (λ (d : Rule). blockInForm ns (d .block)) ds in (
+      λ t.
+          let front = left (few && few-exceptions && blocks) rest t in
+          let counts = left (few && few-exceptions) blocks front in
+          (leb→le _ _ (left few few-exceptions counts), leb→le _ _ (right few few-exceptions counts), each .0 (right (few && few-exceptions) blocks front), right (few && few-exceptions && blocks) rest t),
+      λ w.
+          both (few && few-exceptions && blocks) rest
+          (both (few && few-exceptions) blocks (both few few-exceptions (le→leb _ _ (w .0)) (le→leb _ _ (w .1))) (each .1 (w .2)))
+          (w .3),
+    )
+
+-- directive n of the policy that a set stands for is record n, with the exceptions that name n
+module _ (es : List Exception) where
+  abbrev pub directiveOf : ℕ → Rule → Directive
+  directiveOf n d = record { action = d .action; block = d .block; exceptions = naming n es }
+
+  directive-placed : (n : ℕ) (ds : List Rule) (k : ℕ) → getElem? (directivesFrom n ds es) k ≡ Option·map (directiveOf (n + k)) (getElem? ds k)
+  unfolding directivesFrom
+  directive-placed n [] k = refl
+  directive-placed n (d ∷ ds) zero = ap (λ (m : ℕ). some (directiveOf m d)) (omega arith)
+  directive-placed n (d ∷ ds) (suc k) =
+      let e : suc n + k ≡ n + suc k = omega arith in
+      directive-placed (suc n) ds k ∙ ap (λ (m : ℕ). Option·map (directiveOf m) (getElem? ds k)) e
+
+pub directive-numbered : (s : PolicySet) (n : ℕ)
+    → numbered (policyOf s .directives) n
+    ≡ Option·map (directiveOf (take (s .exception-count) (s .exceptions)) n) (numbered (take (s .directive-count) (s .directives)) n)
+unfolding policyOf numbered
+directive-numbered s zero = refl
+directive-numbered s (suc k) =
+    let es = take (s .exception-count) (s .exceptions) in
+    let ds = take (s .directive-count) (s .directives) in
+    let e : 1 + k ≡ suc k = omega arith in
+    directive-placed es 1 ds k ∙ ap (λ (m : ℕ). Option·map (directiveOf es m) (getElem? ds k)) e
+
 -- a block in form lies inside the widest, so it holds packets in range alone
 pub form-inside-widest : (ns : List ℕ) (b : Block) → T (blockInForm ns b) → T (inside b (widest ns))
 unfolding blockInForm inside
@@ -92,8 +150,8 @@ module _ (ns : List ℕ) (ds : List Rule) where
       let more = inside-named n d e (x .directive) es (w .3) in
       elim (tested (eqb (x .directive) n)) [
         | yes u ↦
-            let same : w .1 .0 ≡ d = Option·some-injective (w .1 .0) d (sym (w .1 .1) ∙ ap (numbered ds) (eqb→eq (x .directive) n u) ∙ e) in
-            rw (passed (eqb (x .directive) n) u) (every-more (subst (λ (c : Rule). T (inside (x .block) (c .block))) same (w .1 .2)) more)
+            let sameAction : w .1 .0 ≡ d = Option·some-injective (w .1 .0) d (sym (w .1 .1) ∙ ap (numbered ds) (eqb→eq (x .directive) n u) ∙ e) in
+            rw (passed (eqb (x .directive) n) u) (every-more (subst (λ (c : Rule). T (inside (x .block) (c .block))) sameAction (w .1 .2)) more)
         | no u ↦ rw (failed (eqb (x .directive) n) u) more
       ]
 
@@ -111,26 +169,25 @@ module _ (ns : List ℕ) (ds : List Rule) (es : List Exception) (t : T (exceptio
       (all-enclosing (suc n) later (λ k c e. subst (λ (j : ℕ). numbered ds j ≡ some c) (omega arith) (at (suc k) c e)))
 
 pub form-enclosing : (ns : List ℕ) (s : PolicySet) → T (policyInForm ns s) → Every Enclosing (policyOf s .directives)
-unfolding policyInForm policyOf numbered
+unfolding policyOf numbered
 form-enclosing ns s t =
     let ds = take (s .directive-count) (s .directives) in
     let es = take (s .exception-count) (s .exceptions) in
-    let before = leb (s .directive-count) mostDirectives && leb (s .exception-count) mostExceptions && all-of (λ (d : Rule). blockInForm ns (d .block)) ds in
-    all-enclosing ns ds es (right before (exceptionsInForm ns ds 0 es) t) 1 ds
+    all-enclosing ns ds es (policy-in-form-iff ns s .0 t .3) 1 ds
     (λ k d e. let n : suc k ≡ 1 + k = omega arith in subst (λ (j : ℕ). numbered ds j ≡ some d) n e)
 
 -- Such a directive asks something of a packet just if its block holds it: both readings of document 000's 4.3 are the same.
-some-holds : (bs : List Block) (b : Block) (p : Packet) → Every (λ c. T (inside c b)) bs → T (some-of (λ (c : Block). holds c p) bs) → Holds b p
-unfolding some-of
+some-holds : (bs : List Block) (b : Block) (p : Packet) → Every (λ c. T (inside c b)) bs → T (someOf (λ (c : Block). holds c p) bs) → Holds b p
+unfolding someOf
 some-holds bs b p every-none t = absurd t
 some-holds bs b p (every-more {x = c} {xs = cs} i e) t =
     elim (tested (holds c p)) [
       | yes h ↦ inside-holds c b p i h
-      | no h ↦ some-holds cs b p e (second (holds c p) (some-of (λ (x : Block). holds x p) cs) h t)
+      | no h ↦ some-holds cs b p e (second (holds c p) (someOf (λ (x : Block). holds x p) cs) h t)
     ]
 
-asks-one : (a : Action) → T (same accept a) ⊎ T (same deny a)
-unfolding same
+asks-one : (a : Action) → T (sameAction accept a) ⊎ T (sameAction deny a)
+unfolding sameAction
 asks-one accept = inl tt
 asks-one deny = inr tt
 
@@ -143,7 +200,7 @@ module _ (d : Directive) (p : Packet) where
   asked-holds e a t =
       elim (tested (excepted d p)) [
         | yes x ↦ some-holds (d .exceptions) (d .block) p e x
-        | no x ↦ right (same a (d .action)) (holds (d .block) p) (rw (failed (excepted d p) x) at t)
+        | no x ↦ right (sameAction a (d .action)) (holds (d .block) p) (rw (failed (excepted d p) x) at t)
       ]
 
   holds-asked : Holds (d .block) p → AsksSome
@@ -153,8 +210,8 @@ module _ (d : Directive) (p : Packet) where
         | yes x ↦ rw (passed (excepted d p) x) (asks-one (opposite (d .action)))
         | no x ↦
             rw (failed (excepted d p) x)
-            (⊎-elim (λ (u : T (same accept (d .action))). inl (both (same accept (d .action)) (holds (d .block) p) u h))
-            (λ (u : T (same deny (d .action))). inr (both (same deny (d .action)) (holds (d .block) p) u h)) (asks-one (d .action)))
+            (⊎-elim (λ (u : T (sameAction accept (d .action))). inl (both (sameAction accept (d .action)) (holds (d .block) p) u h))
+            (λ (u : T (sameAction deny (d .action))). inr (both (sameAction deny (d .action)) (holds (d .block) p) u h)) (asks-one (d .action)))
       ]
 
   pub asks-iff-holds : Enclosing d → AsksSome ↔ Holds (d .block) p
@@ -178,9 +235,9 @@ module _ (ns : List ℕ) (rules : RuleSet) (policy : PolicySet) (p : Packet) whe
   unfolding refuseLabel refuseSets refuseRules refusePolicy refusePacket orElse
   in-form-unrefused t u i = rw (passed (rulesInForm ns rules) t, passed (policyInForm ns policy) u, passed (packetInForm ns p) (form-of ns p i))
 
-pub rules-past-count-unseen : (ns : List ℕ) (s t : RuleSet) → s .count ≡ t .count → table s ≡ table t → rulesInForm ns s ≡ rulesInForm ns t
+pub rules-past-count-unseen : (ns : List ℕ) (s t : RuleSet) → s .count ≡ t .count → tableOf s ≡ tableOf t → rulesInForm ns s ≡ rulesInForm ns t
 unfolding rulesInForm
-rules-past-count-unseen ns s t c e = λ i. leb (c i) mostRules && all-of (λ (r : Rule). blockInForm ns (r .block)) (e i)
+rules-past-count-unseen ns s t c e = λ i. leb (c i) mostRules && allOf (λ (r : Rule). blockInForm ns (r .block)) (e i)
 
 pub policy-past-count-unseen : (ns : List ℕ) (s t : PolicySet)
     → s .directive-count ≡ t .directive-count
@@ -191,6 +248,14 @@ pub policy-past-count-unseen : (ns : List ℕ) (s t : PolicySet)
 unfolding policyInForm policyOf
 policy-past-count-unseen ns s t c d e f = (
   λ i.
-      leb (c i) mostDirectives && leb (d i) mostExceptions && all-of (λ (r : Rule). blockInForm ns (r .block)) (e i) && exceptionsInForm ns (e i) 0 (f i),
+      leb (c i) mostDirectives && leb (d i) mostExceptions && allOf (λ (r : Rule). blockInForm ns (r .block)) (e i) && exceptionsInForm ns (e i) 0 (f i),
   λ i. record { directives = directivesFrom 1 (e i) (f i) },
 )
+
+-- a block in form has a span for each field
+pub form-shaped : (ns : List ℕ) (b : Block) → T (blockInForm ns b) → length b ≡ length ns
+unfolding blockInForm
+form-shaped [] [] t = refl
+form-shaped [] (s ∷ b) t = absurd t
+form-shaped (n ∷ ns) [] t = absurd t
+form-shaped (n ∷ ns) (s ∷ b) t = ap suc (form-shaped ns b (block-in-form-iff n ns s b .0 t .2))

@@ -2,7 +2,7 @@
 use mathlib.Core.Path.{_≡_, refl, sym, _∙_, ap, subst}
 use mathlib.Core.Logic.{_⊎_, inl, inr, ⊎-elim, _↔_}
 use mathlib.Core.Bool.{Bool, not, _&&_}
-use Prim.Native.Nat.{ℕ, zero, suc}
+use Prim.Native.Nat.{ℕ, zero, suc, _≤_}
 use native.Mathlib.Omega.{arith}
 use lib.Dec.{T, eqb, eqb-refl, eqb→eq, T-not}
 use Rattle.meaning.specs.Labels.{Label, good, conflict, wrong, unasked, unmet-accept, unmet-deny, kind, rule}
@@ -14,6 +14,10 @@ Blaming l = (kind l ≡ 2) ⊎ (kind l ≡ 3)
 
 abbrev pub Lacking : Label → Type 0
 Lacking l = (kind l ≡ 2) ⊎ (kind l ≡ 4) ⊎ (kind l ≡ 5)
+
+-- a label that blames a rule has its number, from 1 to b
+abbrev pub Numbered : ℕ → Label → Type 0
+Numbered b l = Blaming l → (1 ≤ rule l) × (rule l ≤ b)
 
 pub data Kinds (l : Label) : Type 0 where
   is-good : l ≡ good → Kinds l

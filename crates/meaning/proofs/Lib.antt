@@ -6,6 +6,7 @@ pub mod PacketOrder
 pub mod BlockHolding
 pub mod BlockNarrowing
 pub mod PolicyAsking
+pub mod FormLaws
 pub mod LabelKinds
 pub mod LabelCases
 pub mod Conforming
@@ -20,13 +21,13 @@ pub mod ListingOrder
 pub mod ListingExists
 pub mod ListingEmpty
 pub mod ListingCount
-pub mod Demands
+pub mod ListingForm
 pub mod BufferWritten
 pub mod StripPlaces
 pub mod StripCells
 pub mod StripListing
 pub mod StripVerdict
 pub mod StripLabels
-pub mod FormLaws
+pub mod Demands
 pub mod Document
 pub mod Small

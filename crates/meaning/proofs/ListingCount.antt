@@ -1,4 +1,4 @@
--- A listing has at most as many blocks as there are packets. Assumes nothing.
+-- How many blocks a listing can have: no more than cells, so no more than a power of the strips of a field. Assumes nothing.
 use mathlib.Core.Path.{_≡_, ap}
 use mathlib.Core.Logic.{_↔_}
 use mathlib.Core.Bool.{Bool}

@@ -38,13 +38,13 @@ module _ {L : Type 0} (fine : L) where
   )
 
 module _ (ns : List ℕ) (f : Packet → Label) (asking : Action → Packet → ℕ) where
-  good-by-kinds : AllGood ns f asking → Agree ns f (λ p. good)
+  good-by-kinds : AllGood ns f → Agree ns f (λ p. good)
   good-by-kinds all q i = from (kinds (f q))
     where
       from : Kinds (f q) → f q ≡ good
       from (kind-good e) = e
       from (is-conflict k) = absurd (all .no-conflict q i k)
-      from (is-blaming w) = absurd (all .no-fault (rule (f q)) q i (w, refl))
+      from (is-blaming w) = absurd (all .no-blame (rule (f q)) q i (w, refl))
       from (is-unmet u) = absurd (all .no-unmet q i u)
 
   pub all-good-conforms : Agree ns f (λ p. good) → IsVerdict ns f asking (conforms ns)

@@ -10,7 +10,7 @@ use Rattle.meaning.proofs.RecordsEvery.{every-append, every-map, every-
 
 module _ {L : Type 0} where
   -- the first number of the block's low corner is at least `low`
-  pub data StartsFrom (low : ℕ) (b : Listed L) : Type 0 where
+  data StartsFrom (low : ℕ) (b : Listed L) : Type 0 where
     starts-from : (x : ℕ) (p : Packet) → lowCorner b ≡ x ∷ p → low ≤ x → StartsFrom low b
 
   starts-later : {low next : ℕ} (b : Listed L) → low ≤ next → StartsFrom next b → StartsFrom low b

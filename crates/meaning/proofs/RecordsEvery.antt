@@ -1,8 +1,12 @@
 -- What holds of every record of a list. Assumes nothing.
+use mathlib.Core.Logic.{_↔_}
+use mathlib.Core.Bool.{Bool}
 use mathlib.Core.List.{List, [], _∷_, _++_, map}
 use Prim.Native.Nat.{ℕ, zero, suc}
+use lib.Dec.{T}
 use lib.ListN.{take}
-use Rattle.meaning.specs.Records.{Every, every-none, every-more}
+use Rattle.meaning.specs.Records.{allOf, Every, every-none, every-more}
+use Rattle.meaning.proofs.Tests.{both, left, right}
 
 module _ {A : Type 0} where
   pub every-append : {P : A → Type 0} {xs ys : List A} → Every P xs → Every P ys → Every P (xs ++ ys)
@@ -21,3 +25,16 @@ module _ {A : Type 0} where
   every-take zero e = every-none
   every-take (suc k) every-none = every-none
   every-take (suc k) (every-more h e) = every-more h (every-take k e)
+
+  -- every record passes a test
+  pub all-of-iff : (test : A → Bool) (xs : List A) → T (allOf test xs) ↔ Every (λ x. T (test x)) xs
+  unfolding allOf
+  all-of-iff test xs = (each xs, all xs)
+    where
+      each : (ys : List A) → T (allOf test ys) → Every (λ x. T (test x)) ys
+      each [] t = every-none
+      each (y ∷ ys) t = every-more (left (test y) (allOf test ys) t) (each ys (right (test y) (allOf test ys) t))
+
+      all : (ys : List A) → Every (λ x. T (test x)) ys → T (allOf test ys)
+      all ys every-none = tt
+      all ys (every-more {x = y} {xs = zs} h e) = both (test y) (allOf test zs) h (all zs e)

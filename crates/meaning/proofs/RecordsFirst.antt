@@ -7,7 +7,7 @@ use Prim.Native.Nat.{ℕ, zero, suc, _+_, _≤_, _<_}
 use native.Mathlib.Omega.{arith}
 use lib.Dec.{T}
 use lib.ListN.{length, getElem?}
-use Rattle.meaning.specs.Records.{numbered, some-of, all-of, nothing, found, firstFrom, first}
+use Rattle.meaning.specs.Records.{numbered, someOf, allOf, nothing, found, firstFrom, first}
 use Rattle.meaning.proofs.Tests.{passed, failed, passes, tested, left, right}
 
 module _ {A : Type 0} (test : A → Bool) where
@@ -16,8 +16,8 @@ module _ {A : Type 0} (test : A → Bool) where
   NonePlaced xs k = (j : ℕ) (y : A) → j < k → getElem? xs j ≡ some y → ¬ T (test y)
 
   data Scanned (n : ℕ) (xs : List A) : Type 0 where
-    scanned-none : firstFrom n test xs ≡ nothing → some-of test xs ≡ false → ((k : ℕ) → NonePlaced xs k) → Scanned n xs
-    scanned-at : (k : ℕ) (x : A) → firstFrom n test xs ≡ found (n + k) x → some-of test xs ≡ true → getElem? xs k ≡ some x → T (test x)
+    scanned-none : firstFrom n test xs ≡ nothing → someOf test xs ≡ false → ((k : ℕ) → NonePlaced xs k) → Scanned n xs
+    scanned-at : (k : ℕ) (x : A) → firstFrom n test xs ≡ found (n + k) x → someOf test xs ≡ true → getElem? xs k ≡ some x → T (test x)
         → NonePlaced xs k → Scanned n xs
 
   none-first : (x : A) (xs : List A) (k : ℕ) → ¬ T (test x) → NonePlaced xs k → NonePlaced (x ∷ xs) (suc k)
@@ -28,21 +28,21 @@ module _ {A : Type 0} (test : A → Bool) where
   none-at-zero xs j y l e = absurd (omega arith)
 
   found-here : (n : ℕ) (x : A) (xs : List A) → T (test x) → Scanned n (x ∷ xs)
-  unfolding firstFrom some-of
+  unfolding firstFrom someOf
   found-here n x xs t =
       let e = passed (test x) t in
       scanned-at 0 x
       (ap (λ (b : Bool). cond b (found n x) (firstFrom (suc n) test xs)) e ∙ ap (λ (m : ℕ). found m x) (omega arith))
-      (ap (λ (b : Bool). b || some-of test xs) e)
+      (ap (λ (b : Bool). b || someOf test xs) e)
       refl
       t
       (none-at-zero (x ∷ xs))
 
   found-later : (n : ℕ) (x : A) (xs : List A) → ¬ T (test x) → Scanned (suc n) xs → Scanned n (x ∷ xs)
-  unfolding firstFrom some-of
+  unfolding firstFrom someOf
   found-later n x xs h (scanned-none e s before) =
       let f = failed (test x) h in
-      scanned-none (ap (λ (b : Bool). cond b (found n x) (firstFrom (suc n) test xs)) f ∙ e) (ap (λ (b : Bool). b || some-of test xs) f ∙ s) below
+      scanned-none (ap (λ (b : Bool). cond b (found n x) (firstFrom (suc n) test xs)) f ∙ e) (ap (λ (b : Bool). b || someOf test xs) f ∙ s) below
     where
       below : (k : ℕ) → NonePlaced (x ∷ xs) k
       below zero = none-at-zero (x ∷ xs)
@@ -51,13 +51,13 @@ module _ {A : Type 0} (test : A → Bool) where
       let f = failed (test x) h in
       scanned-at (suc k) y
       (ap (λ (b : Bool). cond b (found n x) (firstFrom (suc n) test xs)) f ∙ e ∙ ap (λ (m : ℕ). found m y) (omega arith))
-      (ap (λ (b : Bool). b || some-of test xs) f ∙ s)
+      (ap (λ (b : Bool). b || someOf test xs) f ∙ s)
       at
       t
       (none-first x xs k h before)
 
   scan : (n : ℕ) (xs : List A) → Scanned n xs
-  unfolding firstFrom some-of
+  unfolding firstFrom someOf
   scan n [] = scanned-none refl refl (λ k j y l e. absurd (Option·none-ne-some y e))
   scan n (x ∷ xs) = elim (tested (test x)) [ yes t ↦ found-here n x xs t | no h ↦ found-later n x xs h (scan (suc n) xs) ]
 
@@ -66,8 +66,8 @@ module _ {A : Type 0} (test : A → Bool) where
   NoneBelow xs i = (j : ℕ) (y : A) → j < i → numbered xs j ≡ some y → ¬ T (test y)
 
   pub data First (xs : List A) : Type 0 where
-    first-none : first test xs ≡ nothing → ¬ T (some-of test xs) → ((i : ℕ) → NoneBelow xs i) → First xs
-    first-at : (i : ℕ) (x : A) → first test xs ≡ found i x → T (some-of test xs) → numbered xs i ≡ some x → T (test x) → NoneBelow xs i → First xs
+    first-none : first test xs ≡ nothing → ¬ T (someOf test xs) → ((i : ℕ) → NoneBelow xs i) → First xs
+    first-at : (i : ℕ) (x : A) → first test xs ≡ found i x → T (someOf test xs) → numbered xs i ≡ some x → T (test x) → NoneBelow xs i → First xs
 
   below-number : (xs : List A) (k : ℕ) → NonePlaced xs k → NoneBelow xs (suc k)
   unfolding numbered
@@ -80,7 +80,7 @@ module _ {A : Type 0} (test : A → Bool) where
     where
       from : Scanned 1 xs → First xs
       from (scanned-none e s before) = first-none e (λ t. rw s at t) (λ i j y l. below-number xs i (before i) j y (omega arith))
-      from (scanned-at k x e s at t before) = first-at (suc k) x (e ∙ ap (λ (n : ℕ). found n x) (omega arith)) (passes (some-of test xs) s) at t (below-number xs k before)
+      from (scanned-at k x e s at t before) = first-at (suc k) x (e ∙ ap (λ (n : ℕ). found n x) (omega arith)) (passes (someOf test xs) s) at t (below-number xs k before)
 
 module _ {A : Type 0} where
   place-within : (xs : List A) (k : ℕ) (x : A) → getElem? xs k ≡ some x → k < length xs
@@ -96,12 +96,12 @@ module _ {A : Type 0} where
 
 -- tests that come out the same on every record find the same
 module _ {A : Type 0} (ok test other : A → Bool) (same : (x : A) → T (ok x) → test x ≡ other x) where
-  pub some-of-same : (xs : List A) → T (all-of ok xs) → some-of test xs ≡ some-of other xs
-  unfolding some-of all-of
-  some-of-same [] t = refl
-  some-of-same (x ∷ xs) t = rw (same x (left (ok x) (all-of ok xs) t), some-of-same xs (right (ok x) (all-of ok xs) t))
+  pub some-same : (xs : List A) → T (allOf ok xs) → someOf test xs ≡ someOf other xs
+  unfolding someOf allOf
+  some-same [] t = refl
+  some-same (x ∷ xs) t = rw (same x (left (ok x) (allOf ok xs) t), some-same xs (right (ok x) (allOf ok xs) t))
 
-  pub first-same : (n : ℕ) (xs : List A) → T (all-of ok xs) → firstFrom n test xs ≡ firstFrom n other xs
-  unfolding firstFrom all-of
+  pub first-same : (n : ℕ) (xs : List A) → T (allOf ok xs) → firstFrom n test xs ≡ firstFrom n other xs
+  unfolding firstFrom allOf
   first-same n [] t = refl
-  first-same n (x ∷ xs) t = rw (same x (left (ok x) (all-of ok xs) t), first-same (suc n) xs (right (ok x) (all-of ok xs) t))
+  first-same n (x ∷ xs) t = rw (same x (left (ok x) (allOf ok xs) t), first-same (suc n) xs (right (ok x) (allOf ok xs) t))

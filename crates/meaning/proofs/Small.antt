@@ -1,16 +1,19 @@
 -- A listing and a verdict computed over small fields: sources 0 to 4 and ports 0 to 3. Assumes nothing.
 use mathlib.Core.Path.{_≡_, refl}
+use mathlib.Core.Bool.{true, false}
 use mathlib.Core.List.{List, [], _∷_}
 use Prim.Native.Nat.{ℕ}
 use lib.Dec.{T}
-use Rattle.meaning.specs.Blocks.{within, holds, widest, shares, narrowed, narrow, narrows, narrowAll, narrowsAll}
-use Rattle.meaning.specs.Buffers.{FaultListing, bounds, row, rows, written}
+use lib.ListN.{replicate}
+use Rattle.meaning.specs.Blocks.{within, holds, inside, widest, shares, narrowSpan, narrow, narrows, narrowAll, narrowsAll}
+use Rattle.meaning.specs.Buffers.{bounds, row, rows, written}
 use Rattle.meaning.specs.Document.{range, only}
-use Rattle.meaning.specs.Labels.{Label, good, wrong, unasked, kind, rule, done, judged, label}
-use Rattle.meaning.specs.Listings.{Listed}
-use Rattle.meaning.specs.Policies.{Policy, excepted, asks, asked, asking}
-use Rattle.meaning.specs.Records.{some-of, firstFrom, numberOf}
-use Rattle.meaning.specs.Rules.{accept, opposite, same, Table, deciding}
+use Rattle.meaning.specs.Form.{RuleSet, PolicySet, blockInForm, rulesInForm, insideOf, exceptionsInForm, policyInForm}
+use Rattle.meaning.specs.Labels.{Label, good, wrong, unasked, kind, rule, judged, label}
+use Rattle.meaning.specs.Listings.{Listed, FaultListing}
+use Rattle.meaning.specs.Policies.{Policy, excepted, asks, asked, lowestAsking}
+use Rattle.meaning.specs.Records.{numbered, allOf, someOf, firstFrom, numberOf}
+use Rattle.meaning.specs.Rules.{accept, opposite, sameAction, Table, deciding}
 use Rattle.meaning.specs.Verdicts.{VerdictOn}
 use Rattle.meaning.proofs.VerdictFirst.{better, ahead, bestBelow, best}
 use Rattle.meaning.proofs.LabelKinds.{sameLabel, same-label-iff}
@@ -38,11 +41,11 @@ blocks =
     ∷ []
 
 pub small-listing : FaultListing sizes table policy blocks
-unfolding listingOf runsFrom lastFrom agree below sameLabel kind rule label judged done asked asks excepted deciding firstFrom some-of holds within opposite same
+unfolding listingOf runsFrom lastFrom agree below sameLabel kind rule label judged asked asks excepted deciding firstFrom someOf holds within opposite sameAction
 small-listing = listing-computed sameLabel same-label-iff good sizes (label table policy)
 
 pub small-verdict : VerdictOn sizes table policy (record { label = wrong 1; accept-directive = 0; deny-directive = 1; packet = 2 ∷ 1 ∷ [] })
-unfolding verdictOf verdictFor best bestBelow better ahead rankOf kind rule label judged done asked asks asking numberOf excepted deciding firstFrom some-of holds within opposite same
+unfolding verdictOf verdictFor best bestBelow better ahead rankOf kind rule label judged asked asks lowestAsking numberOf excepted deciding firstFrom someOf holds within opposite sameAction
 small-verdict = verdict-exists sizes table policy
 
 -- six numbers a block: eight numbers have room for one, and the last two stay
@@ -53,5 +56,26 @@ small-buffer = refl
 -- the widest block narrowed to sources 1 to 3, then to ports from 2 on; ports 3 to 2 fall and leave it as it is
 pub small-narrowing : T (narrowsAll ((0, range 1 3) ∷ (1, range 2 9) ∷ []) (widest sizes))
     × (narrowAll ((0, range 1 3) ∷ (1, range 2 9) ∷ (1, range 3 2) ∷ []) (widest sizes) ≡ range 1 3 ∷ range 2 3 ∷ [])
-unfolding narrowsAll narrows shares narrowAll narrow narrowed
+unfolding narrowsAll narrows shares narrowAll narrow narrowSpan
 small-narrowing = (tt, refl)
+
+-- the sides of each limit: 64 rules are in form and 65 are not; 32 directives and 64 exceptions are, and one more of either is not
+abbrev rulesOf : ℕ → RuleSet
+rulesOf n = record { count = n; records = replicate 65 (record { action = accept; block = widest sizes }) }
+
+abbrev policyOf : ℕ → ℕ → PolicySet
+policyOf n m =
+    record {
+      directive-count = n;
+      directives = replicate 33 (record { action = accept; block = widest sizes });
+      exception-count = m;
+      exceptions = replicate 65 (record { directive = 1; block = widest sizes });
+    }
+
+pub small-limits : (rulesInForm sizes (rulesOf 64) ≡ true)
+    × (rulesInForm sizes (rulesOf 65) ≡ false)
+    × (policyInForm sizes (policyOf 32 64) ≡ true)
+    × (policyInForm sizes (policyOf 33 64) ≡ false)
+    × (policyInForm sizes (policyOf 32 65) ≡ false)
+unfolding rulesInForm policyInForm exceptionsInForm insideOf inside blockInForm numbered allOf
+small-limits = (refl, refl, refl, refl, refl)

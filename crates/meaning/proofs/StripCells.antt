@@ -8,6 +8,7 @@ use native.Mathlib.Decide.{decLt, decLe}
 use lib.ListN.{List·getD-eq-default}
 use Rattle.meaning.specs.Fields.{Packet, InRange, range-none, range-more, Before, sooner, level}
 use Rattle.meaning.specs.Strips.{Cut, strips, place, sizes, counts, InCell, cell-none, cell-more, corner}
+use Rattle.meaning.specs.Verdicts.{Least}
 use Rattle.meaning.proofs.PacketOrder.{before-differs}
 
 module _ (c : Cut) where
@@ -90,8 +91,10 @@ before-corner (c ∷ cs) (range-more {x = i} {p = cell} h u) (cell-more {i = j} 
     (before-cases b)
 
 -- the low corner of a cell is its least packet
-pub corner-is-least : (cs : List Cut) {cell : List ℕ} {q : Packet} → InCell cs cell q → ¬ Before q (corner cs cell)
-corner-is-least cs s b = before-differs (before-corner cs (cell-in-range s) s b) refl
+pub corner-is-least : (cs : List Cut) {cell : List ℕ} → InRange (counts cs) cell → Least (sizes cs) (InCell cs cell) (corner cs cell)
+corner-is-least cs i =
+    let here = corner-in-cell cs i in
+    record { in-range = packet-in-range here; is-such = here; none-before = λ q j b s. before-differs (before-corner cs i s b) refl }
 
 -- cells in order have their corners in order
 pub corners-in-order : (cs : List Cut) {cell other : List ℕ} → InRange (counts cs) cell → InRange (counts cs) other → Before cell other

@@ -9,28 +9,28 @@ use lib.ListN.{length, getD}
 use Rattle.meaning.specs.Blocks.{Span, Block, within, holds}
 use Rattle.meaning.specs.Fields.{Packet}
 use Rattle.meaning.specs.Labels.{label}
-use Rattle.meaning.specs.Policies.{Directive, Policy, excepted, asks, asked, asking}
-use Rattle.meaning.specs.Records.{some-of, all-of, first, numberOf}
+use Rattle.meaning.specs.Policies.{Directive, Policy, excepted, asks, asked, lowestAsking}
+use Rattle.meaning.specs.Records.{someOf, allOf, first, numberOf}
 use Rattle.meaning.specs.Rules.{Action, accept, deny, Rule, deciding, Table}
 use Rattle.meaning.specs.Strips.{Cut, strips, place, InCell, cell-none, cell-more, corner, ByCells, isPlace, cutAt, cutForDirective, cutFor}
 use Rattle.meaning.proofs.StripCells.{place-past, place-mono, cell-in-range, corner-in-cell}
-use Rattle.meaning.proofs.RecordsFirst.{some-of-same, first-same}
+use Rattle.meaning.proofs.RecordsFirst.{some-same, first-same}
 use Rattle.meaning.proofs.BlockHolding.{within-iff}
 use Rattle.meaning.proofs.Tests.{tested, left, right, second, same-test}
 
 -- x is where strip k begins, or the size
-pub record PlaceAt (c : Cut) (x : ℕ) : Type 0 where
-  pub strip : ℕ
-  pub is-strip : strip ≤ strips c
-  pub is-place : x ≡ place c strip
+record PlaceAt (c : Cut) (x : ℕ) : Type 0 where
+  strip : ℕ
+  is-strip : strip ≤ strips c
+  is-place : x ≡ place c strip
 
-member : (x d : ℕ) (ys : List ℕ) → T (some-of (λ (y : ℕ). eqb x y) ys) → (k : ℕ) × (k < length ys) × (x ≡ getD ys k d)
-unfolding some-of
+member : (x d : ℕ) (ys : List ℕ) → T (someOf (λ (y : ℕ). eqb x y) ys) → (k : ℕ) × (k < length ys) × (x ≡ getD ys k d)
+unfolding someOf
 member x d [] t = absurd t
 member x d (y ∷ ys) t =
     elim (tested (eqb x y)) [
       | yes e ↦ (0, omega arith, eqb→eq x y e)
-      | no h ↦ let w = member x d ys (second (eqb x y) (some-of (λ (z : ℕ). eqb x z) ys) h t) in (suc (w .0), omega (arith, w .1), w .2)
+      | no h ↦ let w = member x d ys (second (eqb x y) (someOf (λ (z : ℕ). eqb x z) ys) h t) in (suc (w .0), omega (arith, w .1), w .2)
     ]
 
 place-at : (c : Cut) (x : ℕ) → T (isPlace c x) → PlaceAt c x
@@ -39,7 +39,7 @@ place-at c x t =
     elim (tested (eqb x (c .size))) [
       | yes e ↦ record { strip = strips c; is-strip = omega arith; is-place = eqb→eq x (c .size) e ∙ sym (place-past c {i = strips c} (omega arith)) }
       | no h ↦
-          let w = member x (c .size) (c .places) (second (eqb x (c .size)) (some-of (λ (y : ℕ). eqb x y) (c .places)) h t) in
+          let w = member x (c .size) (c .places) (second (eqb x (c .size)) (someOf (λ (y : ℕ). eqb x y) (c .places)) h t) in
           record { strip = w .0; is-strip = omega (arith, w .1); is-place = w .2 }
     ]
 
@@ -74,19 +74,19 @@ module _ (cs : List Cut) {cell : List ℕ} {p q : Packet} (at-p : InCell cs cell
   same-asks : (a : Action) (d : Directive) → T (cutForDirective cs d) → asks d a p ≡ asks d a q
   unfolding cutForDirective asks excepted
   same-asks a d t =
-      let own : holds (d .block) p ≡ holds (d .block) q = same-holds cs (d .block) (left (cutAt cs (d .block)) (all-of (cutAt cs) (d .exceptions)) t) at-p at-q in
-      let except : some-of (λ (b : Block). holds b p) (d .exceptions) ≡ some-of (λ (b : Block). holds b q) (d .exceptions) =
-      some-of-same (cutAt cs) (λ b. holds b p) (λ b. holds b q) (λ b u. same-holds cs b u at-p at-q) (d .exceptions) (right (cutAt cs (d .block)) (all-of (cutAt cs) (d .exceptions)) t) in
+      let own : holds (d .block) p ≡ holds (d .block) q = same-holds cs (d .block) (left (cutAt cs (d .block)) (allOf (cutAt cs) (d .exceptions)) t) at-p at-q in
+      let except : someOf (λ (b : Block). holds b p) (d .exceptions) ≡ someOf (λ (b : Block). holds b q) (d .exceptions) =
+      some-same (cutAt cs) (λ b. holds b p) (λ b. holds b q) (λ b u. same-holds cs b u at-p at-q) (d .exceptions) (right (cutAt cs (d .block)) (allOf (cutAt cs) (d .exceptions)) t) in
       rw (own, except)
 
   module _ (rules : Table) (policy : Policy) (t : T (cutFor cs rules policy)) where
-    rules-cut : T (all-of (λ (r : Rule). cutAt cs (r .block)) rules)
+    rules-cut : T (allOf (λ (r : Rule). cutAt cs (r .block)) rules)
     unfolding cutFor
-    rules-cut = left (all-of (λ (r : Rule). cutAt cs (r .block)) rules) (all-of (cutForDirective cs) (policy .directives)) t
+    rules-cut = left (allOf (λ (r : Rule). cutAt cs (r .block)) rules) (allOf (cutForDirective cs) (policy .directives)) t
 
-    directives-cut : T (all-of (cutForDirective cs) (policy .directives))
+    directives-cut : T (allOf (cutForDirective cs) (policy .directives))
     unfolding cutFor
-    directives-cut = right (all-of (λ (r : Rule). cutAt cs (r .block)) rules) (all-of (cutForDirective cs) (policy .directives)) t
+    directives-cut = right (allOf (λ (r : Rule). cutAt cs (r .block)) rules) (allOf (cutForDirective cs) (policy .directives)) t
 
     same-deciding : deciding rules p ≡ deciding rules q
     unfolding deciding
@@ -95,10 +95,10 @@ module _ (cs : List Cut) {cell : List ℕ} {p q : Packet} (at-p : InCell cs cell
 
     same-asked : (a : Action) → asked policy a p ≡ asked policy a q
     unfolding asked
-    same-asked a = some-of-same (cutForDirective cs) (λ d. asks d a p) (λ d. asks d a q) (same-asks a) (policy .directives) directives-cut
+    same-asked a = some-same (cutForDirective cs) (λ d. asks d a p) (λ d. asks d a q) (same-asks a) (policy .directives) directives-cut
 
-    same-asking : (a : Action) → asking policy a p ≡ asking policy a q
-    unfolding asking
+    same-asking : (a : Action) → lowestAsking policy a p ≡ lowestAsking policy a q
+    unfolding lowestAsking
     same-asking a = ap numberOf (first-same (cutForDirective cs) (λ d. asks d a p) (λ d. asks d a q) (same-asks a) 1 (policy .directives) directives-cut)
 
     same-label : label rules policy p ≡ label rules policy q
@@ -110,5 +110,5 @@ module _ (cs : List Cut) (rules : Table) (policy : Policy) (t : T (cutFor cs rul
   pub label-by-cells : ByCells cs (λ cell. label rules policy (corner cs cell)) (label rules policy)
   label-by-cells cell p s = same-label cs s (corner-in-cell cs (cell-in-range s)) rules policy t
 
-  pub asking-by-cells : (a : Action) → ByCells cs (λ cell. asking policy a (corner cs cell)) (asking policy a)
+  pub asking-by-cells : (a : Action) → ByCells cs (λ cell. lowestAsking policy a (corner cs cell)) (lowestAsking policy a)
   asking-by-cells a cell p s = same-asking cs s (corner-in-cell cs (cell-in-range s)) rules policy t a

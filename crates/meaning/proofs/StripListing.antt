@@ -21,7 +21,7 @@ module _ {L : Type 0} (cs : List Cut) (h k f g : List ℕ → L) (hf : ByCells c
       sym (hf cell (corner cs cell) s) ∙ a (corner cs cell) (packet-in-range s) ∙ kg cell (corner cs cell) s
 
 module _ {L : Type 0} {ns : List ℕ} {Inner : Lister L} {n : ℕ} {f : Packet → L} where
-  -- a run that is over before `next`
+  -- the same run, told by the number after its last
   pub run-until : (low next : ℕ) (blocks later : List (Listed L))
       → low < next
       → next ≤ n

@@ -8,8 +8,9 @@ use Rattle.meaning.specs.Labels.{Label, good}
 use Rattle.meaning.specs.Rules.{Action}
 use Rattle.meaning.specs.Strips.{Cut, sizes, counts, corner, ByCells}
 use Rattle.meaning.specs.Verdicts.{verdictAt, conforms, IsVerdict}
+use Rattle.meaning.proofs.LabelKinds.{Numbered}
 use Rattle.meaning.proofs.StripCells.{cell-of, packet-in-range, cell-in-range, corner-in-cell, before-corner}
-use Rattle.meaning.proofs.VerdictRanks.{rank, Numbered, FirstOf, first-is-verdict, first-good-conforms}
+use Rattle.meaning.proofs.VerdictRanks.{rank, FirstOf, first-is-verdict, first-good-conforms}
 
 module _ (cs : List Cut) (r : List ℕ → ℕ) (s : Packet → ℕ) (rs : ByCells cs r s) where
   pub first-lifts : (cell : List ℕ) → FirstOf (counts cs) r cell → FirstOf (sizes cs) s (corner cs cell)

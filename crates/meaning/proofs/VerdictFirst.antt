@@ -45,7 +45,7 @@ module _ (n : ℕ) (ns : List ℕ) where
   wider : {q : Packet} → InRange (n ∷ ns) q → InRange (suc n ∷ ns) q
   wider (range-more {x} h i) = range-more {n = suc n} {x = x} (omega arith) i
 
-  -- what comes before a packet below n is below n
+  -- a packet whose first number is below n has only such before it
   before-below : {p q : Packet} → InRange (n ∷ ns) p → InRange (suc n ∷ ns) q → Before q p → InRange (n ∷ ns) q
   before-below (range-more h i) (range-more {x} g j) (sooner l) = range-more {n = n} {x = x} (omega arith) j
   before-below (range-more h i) (range-more g j) (level b) = range-more h j

@@ -5,10 +5,10 @@ use mathlib.Core.List.{List}
 use Prim.Native.Nat.{ℕ, zero, suc, _+_, _≤_, _<_}
 use native.Mathlib.Omega.{arith}
 use Rattle.meaning.specs.Fields.{Packet, InRange, Before}
-use Rattle.meaning.specs.Labels.{Label, good, kind, rule}
+use Rattle.meaning.specs.Labels.{Label, good, kind, rule, OfKind}
 use Rattle.meaning.specs.Rules.{Action}
-use Rattle.meaning.specs.Verdicts.{None, verdictAt, conforms, Conflicts, Faults, IsVerdict, case-conflict, case-rule, case-unmet, case-conforms}
-use Rattle.meaning.proofs.LabelKinds.{Blaming, Kinds, is-good, is-conflict, is-blaming, is-unmet, kinds}
+use Rattle.meaning.specs.Verdicts.{None, verdictAt, conforms, Blames, IsVerdict, case-conflict, case-rule, case-unmet, case-conforms}
+use Rattle.meaning.proofs.LabelKinds.{Blaming, Numbered, Kinds, is-good, is-conflict, is-blaming, is-unmet, kinds}
 
 -- Conflict comes before the rules in order, these before what is unmet, and good comes last; b is the number of rules, k the kind, n the rule.
 unfoldable pub rankOf : ℕ → ℕ → ℕ → ℕ
@@ -21,17 +21,13 @@ rankOf b (suc (suc (suc (suc k)))) n = b + 1
 abbrev pub rank : ℕ → Label → ℕ
 rank b l = rankOf b (kind l) (rule l)
 
--- a rule at fault has a number from 1 to b
-abbrev pub Numbered : ℕ → Label → Type 0
-Numbered b l = Blaming l → (1 ≤ rule l) × (rule l ≤ b)
-
--- p is, of the packets of the lowest rank, the first
+-- p has the lowest rank, and every packet before it has a higher one
 pub record FirstOf (ns : List ℕ) (r : Packet → ℕ) (p : Packet) : Type 0 where
   pub in-range : InRange ns p
   pub lowest-rank : (q : Packet) → InRange ns q → r p ≤ r q
   pub first : (q : Packet) → InRange ns q → Before q p → r p < r q
 
--- the rank of each kind
+-- ranks by kinds
 module _ (b : ℕ) (l : Label) where
   by-kind : (k : ℕ) → kind l ≡ k → rank b l ≡ rankOf b k (rule l)
   by-kind k e = ap (λ (j : ℕ). rankOf b j (rule l)) e
@@ -61,10 +57,10 @@ module _
     (p : Packet)
     (o : FirstOf ns (λ q. rank b (f q)) p)
   where
-    no-conflicts : 0 < rank b (f p) → None ns (Conflicts f)
+    no-conflicts : 0 < rank b (f p) → None ns (OfKind f 1)
     no-conflicts h q i e = omega (arith, o .lowest-rank q i, conflict-ranks b (f q) e)
 
-    no-faults : b < rank b (f p) → (n : ℕ) → None ns (Faults f n)
+    no-faults : b < rank b (f p) → (n : ℕ) → None ns (Blames f n)
     no-faults h n q i w = omega (arith, o .lowest-rank q i, rule-ranks b (f q) (w .0), numbered q i (w .0) .1)
 
     first-conflict : kind (f p) ≡ 1 → IsVerdict ns f asking (verdictAt f asking p)

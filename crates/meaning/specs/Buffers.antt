@@ -1,15 +1,10 @@
--- The fault listing of a table and a policy, and the lent buffer that takes it.
+-- The lent buffer of numbers that takes a listing.
 use mathlib.Core.List.{List, [], _∷_, _++_}
 use Prim.Native.Nat.{ℕ, _+_, _*_, _/_}
 use lib.ListN.{length, take, drop}
 use Rattle.meaning.specs.Blocks.{Block}
-use Rattle.meaning.specs.Labels.{Label, good, kind, rule, label}
-use Rattle.meaning.specs.Listings.{Listed, Listing}
-use Rattle.meaning.specs.Policies.{Policy}
-use Rattle.meaning.specs.Rules.{Table}
-
-abbrev pub FaultListing : List ℕ → Table → Policy → List (Listed Label) → Type 0
-FaultListing ns rules policy blocks = Listing good ns (label rules policy) blocks
+use Rattle.meaning.specs.Labels.{Label, kind, rule}
+use Rattle.meaning.specs.Listings.{Listed}
 
 -- "Low and high of source, destination, protocol, port."
 unfoldable pub bounds : Block → List ℕ
@@ -20,6 +15,7 @@ bounds (s ∷ b) = s .low ∷ s .high ∷ bounds b
 unfoldable pub row : Listed Label → List ℕ
 row b = kind (b .label) ∷ rule (b .label) ∷ bounds (b .block)
 
+-- the numbers of blocks, one after the other
 unfoldable pub rows : List (Listed Label) → List ℕ
 rows [] = []
 rows (b ∷ bs) = row b ++ rows bs

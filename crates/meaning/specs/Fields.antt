@@ -3,15 +3,15 @@ use mathlib.Core.List.{List, [], _∷_, map}
 use Prim.Native.Nat.{ℕ, _^_, _<_}
 
 -- A field of w bits has 2 ^ w numbers, from 0 on.
-abbrev pub size : ℕ → ℕ
-size w = 2 ^ w
+abbrev pub sizeOf : ℕ → ℕ
+sizeOf w = 2 ^ w
 
 -- source, destination, protocol, destination port
 abbrev pub widths : List ℕ
 widths = 32 ∷ 32 ∷ 8 ∷ 16 ∷ []
 
 abbrev pub fields : List ℕ
-fields = map size widths
+fields = map sizeOf widths
 
 -- A packet is a number for each field.
 abbrev pub Packet : Type 0
@@ -21,6 +21,10 @@ Packet = List ℕ
 pub data InRange : List ℕ → Packet → Type 0 where
   range-none : InRange [] []
   range-more : {n x : ℕ} {ns : List ℕ} {p : Packet} → x < n → InRange ns p → InRange (n ∷ ns) (x ∷ p)
+
+-- "Every such quadruple is a packet."
+abbrev pub IsPacket : List ℕ → Packet → Type 0
+IsPacket ns p = InRange ns p
 
 -- "Packets are ordered by source, then destination, protocol, port."
 pub data Before : Packet → Packet → Type 0 where

@@ -5,23 +5,26 @@ use mathlib.Core.List.{List, [], _∷_, _++_, map}
 use Prim.Native.Nat.{ℕ, suc, _≤_, _<_}
 use Rattle.meaning.specs.Blocks.{Span, Block, holds}
 use Rattle.meaning.specs.Fields.{Packet, InRange, Before}
+use Rattle.meaning.specs.Labels.{Label, label}
+use Rattle.meaning.specs.Policies.{Policy}
 use Rattle.meaning.specs.Records.{Every}
+use Rattle.meaning.specs.Rules.{Table}
 
 -- a block of the listing
 pub record Listed (L : Type 0) : Type 0 where
   pub block : Block
   pub label : L
 
--- says which blocks are listed for a label function
+-- what it is for blocks to be listed for labels
 abbrev pub Lister : Type 0 → Type 1
 Lister L = (Packet → L) → List (Listed L) → Type 0
 
 module _ {L : Type 0} where
-  -- the labels f of the packets whose first number is x, as a function of the other numbers
+  -- f with its first number fixed at x, as labels of the other numbers
   abbrev pub at : (Packet → L) → ℕ → Packet → L
   at f x p = f (x ∷ p)
 
-  -- f and g agree at every packet
+  -- the labels f and g are the same for every packet in range
   abbrev pub Agree : List ℕ → (Packet → L) → (Packet → L) → Type 0
   Agree ns f g = (p : Packet) → InRange ns p → f p ≡ g p
 
@@ -54,6 +57,10 @@ module _ {L : Type 0} (good : L) where
   abbrev pub Listing : List ℕ → Lister L
   Listing [] f blocks = Last (f []) blocks
   Listing (n ∷ ns) f blocks = Runs ns (Listing ns) n f 0 blocks
+
+-- The fault listing of a table and a policy.
+abbrev pub FaultListing : List ℕ → Table → Policy → List (Listed Label) → Type 0
+FaultListing ns rules policy blocks = Listing Label.good ns (label rules policy) blocks
 
 module _ {L : Type 0} where
   -- what a listing tells of p: the labels of its blocks that hold p, one for each such block

@@ -11,15 +11,17 @@ module _ {A : Type 0} where
   numbered xs zero = none
   numbered xs (suc i) = getElem? xs i
 
-  unfoldable pub some-of : (A → Bool) → List A → Bool
-  some-of test [] = false
-  some-of test (x ∷ xs) = test x || some-of test xs
+  -- some record passes the test
+  unfoldable pub someOf : (A → Bool) → List A → Bool
+  someOf test [] = false
+  someOf test (x ∷ xs) = test x || someOf test xs
 
-  unfoldable pub all-of : (A → Bool) → List A → Bool
-  all-of test [] = true
-  all-of test (x ∷ xs) = test x && all-of test xs
+  -- every record passes the test
+  unfoldable pub allOf : (A → Bool) → List A → Bool
+  allOf test [] = true
+  allOf test (x ∷ xs) = test x && allOf test xs
 
-  -- P holds of each
+  -- P holds of every record
   pub data Every (P : A → Type 0) : List A → Type 0 where
     every-none : Every P []
     every-more : {x : A} {xs : List A} → P x → Every P xs → Every P (x ∷ xs)

@@ -12,17 +12,18 @@ unfoldable pub opposite : Action → Action
 opposite accept = deny
 opposite deny = accept
 
-unfoldable pub same : Action → Action → Bool
-same accept accept = true
-same accept deny = false
-same deny accept = false
-same deny deny = true
+unfoldable pub sameAction : Action → Action → Bool
+sameAction accept accept = true
+sameAction accept deny = false
+sameAction deny accept = false
+sameAction deny deny = true
 
 -- "A rule is an action and a block."
 pub record Rule : Type 0 where
   pub action : Action
   pub block : Block
 
+-- a table: its rules in order, numbered from 1
 abbrev pub Table : Type 0
 Table = List Rule
 

@@ -9,7 +9,7 @@ use Rattle.meaning.specs.Blocks.{Block}
 use Rattle.meaning.specs.Fields.{Packet}
 use Rattle.meaning.specs.Listings.{Listed}
 use Rattle.meaning.specs.Policies.{Policy, Directive}
-use Rattle.meaning.specs.Records.{some-of, all-of}
+use Rattle.meaning.specs.Records.{someOf, allOf}
 use Rattle.meaning.specs.Rules.{Rule, Table}
 
 -- A field cut at places: they rise from 0, each once, and none is past the field's largest number.
@@ -19,13 +19,15 @@ pub record Cut : Type 0 where
   pub from-zero : getD places 0 size ≡ 0
   pub rising : (i : ℕ) → i < length places → getD places i size < getD places (suc i) size
 
--- how many strips; where strip i begins, and past the last strip the size
+-- the number of strips: one begins at each place
 abbrev pub strips : Cut → ℕ
 strips c = length (c .places)
 
+-- the place where strip i begins; the size, if i is past the last
 abbrev pub place : Cut → ℕ → ℕ
 place c i = getD (c .places) i (c .size)
 
+-- the sizes of fields, and their numbers of strips
 abbrev pub sizes : List Cut → List ℕ
 sizes cs = map (λ (c : Cut). c .size) cs
 
@@ -59,12 +61,13 @@ module _ {L : Type 0} where
   abbrev pub ByCells : List Cut → (List ℕ → L) → (Packet → L) → Type 0
   ByCells cs h f = (cell : List ℕ) (p : Packet) → InCell cs cell p → f p ≡ h cell
 
+  -- a listed block of strips as a listed block of numbers
   abbrev pub lift : List Cut → Listed L → Listed L
   lift cs b = record { block = stretch cs (b .block); label = b .label }
 
 -- x is a place, or the size
 unfoldable pub isPlace : Cut → ℕ → Bool
-isPlace c x = eqb x (c .size) || some-of (λ (y : ℕ). eqb x y) (c .places)
+isPlace c x = eqb x (c .size) || someOf (λ (y : ℕ). eqb x y) (c .places)
 
 -- the cuts have a place where the block begins and one where it has just ended, in every field
 unfoldable pub cutAt : List Cut → Block → Bool
@@ -73,9 +76,10 @@ cutAt [] (s ∷ b) = false
 cutAt (c ∷ cs) [] = false
 cutAt (c ∷ cs) (s ∷ b) = isPlace c (s .low) && isPlace c (suc (s .high)) && cutAt cs b
 
--- and that for every block of a table and a policy
+-- for its block and its exceptions
 unfoldable pub cutForDirective : List Cut → Directive → Bool
-cutForDirective cs d = cutAt cs (d .block) && all-of (cutAt cs) (d .exceptions)
+cutForDirective cs d = cutAt cs (d .block) && allOf (cutAt cs) (d .exceptions)
 
+-- for every block of a table and a policy
 unfoldable pub cutFor : List Cut → Table → Policy → Bool
-cutFor cs rules policy = all-of (λ (r : Rule). cutAt cs (r .block)) rules && all-of (cutForDirective cs) (policy .directives)
+cutFor cs rules policy = allOf (λ (r : Rule). cutAt cs (r .block)) rules && allOf (cutForDirective cs) (policy .directives)
