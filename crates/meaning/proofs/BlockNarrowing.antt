@@ -3,7 +3,7 @@ use mathlib.Core.Path.{_≡_, refl, sym, _∙_, ap}
 use mathlib.Core.Logic.{_↔_}
 use mathlib.Core.Bool.{Bool, true, false, _&&_, and-assoc, and-comm, and-true}
 use mathlib.Core.List.{List, [], _∷_}
-use Prim.Native.Nat.{ℕ, zero, suc, _≤_, _<_, min, max}
+use Prim.Native.Nat.{ℕ, zero, suc, _≤_, min, max}
 use native.Mathlib.Omega.{arith}
 use lib.Dec.{T, leb→le, le→leb}
 use lib.ListN.{getD}
@@ -26,14 +26,10 @@ module _ (s bounds : Span) where
         le→leb (max (s .low) (bounds .low)) (min (s .high) (bounds .high)) (omega (arith, a .0, a .1, b .0, b .1)),
   )
 
-  -- bounds that fall share nothing, and a span that falls shares nothing
-  pub falling-bounds-share-none : bounds .high < bounds .low → ¬ T (shares s bounds)
+  -- where numbers are shared neither falls: so falling bounds share nothing, and nor does a falling span
+  pub shares-only-rising : T (shares s bounds) → (s .low ≤ s .high) × (bounds .low ≤ bounds .high)
   unfolding shares
-  falling-bounds-share-none f t = let h : max (s .low) (bounds .low) ≤ min (s .high) (bounds .high) = leb→le _ _ t in omega arith
-
-  pub falling-span-shares-none : s .high < s .low → ¬ T (shares s bounds)
-  unfolding shares
-  falling-span-shares-none f t = let h : max (s .low) (bounds .low) ≤ min (s .high) (bounds .high) = leb→le _ _ t in omega arith
+  shares-only-rising t = let h : max (s .low) (bounds .low) ≤ min (s .high) (bounds .high) = leb→le _ _ t in (omega arith, omega arith)
 
   pub span-stays : ¬ T (shares s bounds) → narrowSpan s bounds ≡ s
   unfolding narrowSpan

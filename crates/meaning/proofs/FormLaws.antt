@@ -150,8 +150,8 @@ module _ (ns : List ℕ) (ds : List Rule) where
       let more = inside-named n d e (x .directive) es (w .3) in
       elim (tested (eqb (x .directive) n)) [
         | yes u ↦
-            let sameAction : w .1 .0 ≡ d = Option·some-injective (w .1 .0) d (sym (w .1 .1) ∙ ap (numbered ds) (eqb→eq (x .directive) n u) ∙ e) in
-            rw (passed (eqb (x .directive) n) u) (every-more (subst (λ (c : Rule). T (inside (x .block) (c .block))) sameAction (w .1 .2)) more)
+            let same : w .1 .0 ≡ d = Option·some-injective (w .1 .0) d (sym (w .1 .1) ∙ ap (numbered ds) (eqb→eq (x .directive) n u) ∙ e) in
+            rw (passed (eqb (x .directive) n) u) (every-more (subst (λ (c : Rule). T (inside (x .block) (c .block))) same (w .1 .2)) more)
         | no u ↦ rw (failed (eqb (x .directive) n) u) more
       ]
 

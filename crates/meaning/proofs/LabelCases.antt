@@ -30,7 +30,7 @@ module _ (rules : Table) (p : Packet) where
 
       from : First held rules → Decided
       from (first-none e s below) = undecided e (λ i r m. below (suc i) i r (omega arith) (m .is-rule) (m .holds-it))
-      from (first-at i r e s is-rule t below) = decided i r e (record { is-rule = is-rule; holds-it = t; none-earlier = below })
+      from (first-at i r e some-hold is-rule t below) = decided i r e (record { is-rule = is-rule; holds-it = t; none-earlier = λ j s l e. below j s (omega arith) e })
 
 -- one rule so matches a packet
 pub matches-once : (rules : Table) (p : Packet) (i j : ℕ) (r s : Rule) → Matches rules p i r → Matches rules p j s → (i ≡ j) × (r ≡ s)

@@ -8,12 +8,15 @@ use lib.Dec.{T, eqb, eqb-refl, eqb→eq, T-not}
 use Rattle.meaning.specs.Labels.{Label, good, conflict, wrong, unasked, unmet-accept, unmet-deny, kind, rule}
 use Rattle.meaning.proofs.Tests.{both, left, right}
 
--- kinds 2 and 3 blame the deciding rule; 2, 4 and 5 lack what is asked
+-- kinds 2 and 3 blame the deciding rule; 4 and 5 leave something unmet; 2, 4 and 5 lack what is asked
 abbrev pub Blaming : Label → Type 0
 Blaming l = (kind l ≡ 2) ⊎ (kind l ≡ 3)
 
+abbrev pub Unmeeting : Label → Type 0
+Unmeeting l = (kind l ≡ 4) ⊎ (kind l ≡ 5)
+
 abbrev pub Lacking : Label → Type 0
-Lacking l = (kind l ≡ 2) ⊎ (kind l ≡ 4) ⊎ (kind l ≡ 5)
+Lacking l = (kind l ≡ 2) ⊎ Unmeeting l
 
 -- a label that blames a rule has its number, from 1 to b
 abbrev pub Numbered : ℕ → Label → Type 0
@@ -23,7 +26,7 @@ pub data Kinds (l : Label) : Type 0 where
   is-good : l ≡ good → Kinds l
   is-conflict : kind l ≡ 1 → Kinds l
   is-blaming : Blaming l → Kinds l
-  is-unmet : (kind l ≡ 4) ⊎ (kind l ≡ 5) → Kinds l
+  is-unmet : Unmeeting l → Kinds l
 
 pub kinds : (l : Label) → Kinds l
 unfolding kind

@@ -38,11 +38,13 @@ module _ {L : Type 0} where
   listing-few good (n ∷ ns) f bs a =
       omega (arith, runs-few ns (Listing good ns) n (product ns) (listing-few good ns) (omega arith) a, zero-mul (product ns))
 
--- At most as many blocks as there are cells, so at most m to the power of the number of fields where no field has more than m strips.
+-- numbers that are at most m
 pub power : (m : ℕ) {ns : List ℕ} → Every (λ n. n ≤ m) ns → product ns ≤ m ^ length ns
 power m every-none = omega (arith, pow-zero m)
 power m (every-more {x = n} {xs = ns} h e) = omega (arith, mul-le-mul h (power m e), pow-suc m (length ns), mul-comm m (m ^ length ns))
 
+-- Labels constant on strips: no more blocks than cells, so no more than m to the power of the number of fields, where no field
+-- has more than m strips.
 module _
     {L : Type 0}
     (same : L → L → Bool)

@@ -60,11 +60,11 @@ unfolding narrowsAll narrows shares narrowAll narrow narrowSpan
 small-narrowing = (tt, refl)
 
 -- the sides of each limit: 64 rules are in form and 65 are not; 32 directives and 64 exceptions are, and one more of either is not
-abbrev rulesOf : ℕ → RuleSet
-rulesOf n = record { count = n; records = replicate 65 (record { action = accept; block = widest sizes }) }
+abbrev manyRules : ℕ → RuleSet
+manyRules n = record { count = n; records = replicate 65 (record { action = accept; block = widest sizes }) }
 
-abbrev policyOf : ℕ → ℕ → PolicySet
-policyOf n m =
+abbrev manyDirectives : ℕ → ℕ → PolicySet
+manyDirectives n m =
     record {
       directive-count = n;
       directives = replicate 33 (record { action = accept; block = widest sizes });
@@ -72,10 +72,10 @@ policyOf n m =
       exceptions = replicate 65 (record { directive = 1; block = widest sizes });
     }
 
-pub small-limits : (rulesInForm sizes (rulesOf 64) ≡ true)
-    × (rulesInForm sizes (rulesOf 65) ≡ false)
-    × (policyInForm sizes (policyOf 32 64) ≡ true)
-    × (policyInForm sizes (policyOf 33 64) ≡ false)
-    × (policyInForm sizes (policyOf 32 65) ≡ false)
+pub small-limits : (rulesInForm sizes (manyRules 64) ≡ true)
+    × (rulesInForm sizes (manyRules 65) ≡ false)
+    × (policyInForm sizes (manyDirectives 32 64) ≡ true)
+    × (policyInForm sizes (manyDirectives 33 64) ≡ false)
+    × (policyInForm sizes (manyDirectives 32 65) ≡ false)
 unfolding rulesInForm policyInForm exceptionsInForm insideOf inside blockInForm numbered allOf
 small-limits = (refl, refl, refl, refl, refl)

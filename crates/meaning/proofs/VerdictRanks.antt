@@ -1,6 +1,6 @@
 -- The verdict's packet is, of the packets of the lowest rank, the first. Assumes nothing.
 use mathlib.Core.Path.{_≡_, refl, ap}
-use mathlib.Core.Logic.{_⊎_, ⊎-elim}
+use mathlib.Core.Logic.{⊎-elim}
 use mathlib.Core.List.{List}
 use Prim.Native.Nat.{ℕ, zero, suc, _+_, _≤_, _<_}
 use native.Mathlib.Omega.{arith}
@@ -8,7 +8,7 @@ use Rattle.meaning.specs.Fields.{Packet, InRange, Before}
 use Rattle.meaning.specs.Labels.{Label, good, kind, rule, OfKind}
 use Rattle.meaning.specs.Rules.{Action}
 use Rattle.meaning.specs.Verdicts.{None, verdictAt, conforms, Blames, IsVerdict, case-conflict, case-rule, case-unmet, case-conforms}
-use Rattle.meaning.proofs.LabelKinds.{Blaming, Numbered, Kinds, is-good, is-conflict, is-blaming, is-unmet, kinds}
+use Rattle.meaning.proofs.LabelKinds.{Blaming, Unmeeting, Numbered, Kinds, is-good, is-conflict, is-blaming, is-unmet, kinds}
 
 -- Conflict comes before the rules in order, these before what is unmet, and good comes last; b is the number of rules, k the kind, n the rule.
 unfoldable pub rankOf : ℕ → ℕ → ℕ → ℕ
@@ -40,7 +40,7 @@ module _ (b : ℕ) (l : Label) where
   unfolding rankOf
   rule-ranks = ⊎-elim (by-kind 2) (by-kind 3)
 
-  unmet-ranks : (kind l ≡ 4) ⊎ (kind l ≡ 5) → rank b l ≡ b + 1
+  unmet-ranks : Unmeeting l → rank b l ≡ b + 1
   unfolding rankOf
   unmet-ranks = ⊎-elim (by-kind 4) (by-kind 5)
 
@@ -60,8 +60,8 @@ module _
     no-conflicts : 0 < rank b (f p) → None ns (OfKind f 1)
     no-conflicts h q i e = omega (arith, o .lowest-rank q i, conflict-ranks b (f q) e)
 
-    no-faults : b < rank b (f p) → (n : ℕ) → None ns (Blames f n)
-    no-faults h n q i w = omega (arith, o .lowest-rank q i, rule-ranks b (f q) (w .0), numbered q i (w .0) .1)
+    no-blames : b < rank b (f p) → (n : ℕ) → None ns (Blames f n)
+    no-blames h n q i w = omega (arith, o .lowest-rank q i, rule-ranks b (f q) (w .0), numbered q i (w .0) .1)
 
     first-conflict : kind (f p) ≡ 1 → IsVerdict ns f asking (verdictAt f asking p)
     first-conflict k =
@@ -78,10 +78,10 @@ module _
           none-before = λ q i l v. omega (arith, e, o .first q i l, rule-ranks b (f q) (v .0), v .1);
         })
 
-    first-unmet : (kind (f p) ≡ 4) ⊎ (kind (f p) ≡ 5) → IsVerdict ns f asking (verdictAt f asking p)
+    first-unmet : Unmeeting (f p) → IsVerdict ns f asking (verdictAt f asking p)
     first-unmet u =
         let e = unmet-ranks b (f p) u in
-        case-unmet (no-conflicts (omega (arith, e))) (no-faults (omega (arith, e)))
+        case-unmet (no-conflicts (omega (arith, e))) (no-blames (omega (arith, e)))
         (record { in-range = o .in-range; is-such = u; none-before = λ q i l v. omega (arith, e, o .first q i l, unmet-ranks b (f q) v) })
 
     pub first-is-verdict : ¬ (f p ≡ good) → IsVerdict ns f asking (verdictAt f asking p)
@@ -96,4 +96,4 @@ module _
     pub first-good-conforms : f p ≡ good → IsVerdict ns f asking (conforms ns)
     first-good-conforms e =
         let r = good-ranks b (f p) e in
-        case-conforms (no-conflicts (omega (arith, r))) (no-faults (omega (arith, r))) (λ q i u. omega (arith, r, o .lowest-rank q i, unmet-ranks b (f q) u))
+        case-conforms (no-conflicts (omega (arith, r))) (no-blames (omega (arith, r))) (λ q i u. omega (arith, r, o .lowest-rank q i, unmet-ranks b (f q) u))

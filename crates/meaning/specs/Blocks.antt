@@ -24,6 +24,7 @@ holds [] (x ∷ p) = false
 holds (s ∷ b) [] = false
 holds (s ∷ b) (x ∷ p) = within s x && holds b p
 
+-- the same, as a statement
 abbrev pub Holds : Block → Packet → Type 0
 Holds b p = T (holds b p)
 

@@ -12,7 +12,7 @@ pub data Label : Type 0 where
   good conflict unmet-accept unmet-deny : Label
   wrong unasked : ℕ → Label
 
--- the columns "Kind" and "Rule"
+-- the column "Kind"
 unfoldable pub kind : Label → ℕ
 kind good = 0
 kind conflict = 1
@@ -21,6 +21,7 @@ kind (unasked n) = 3
 kind unmet-accept = 4
 kind unmet-deny = 5
 
+-- the column "Rule"
 unfoldable pub rule : Label → ℕ
 rule good = 0
 rule conflict = 0

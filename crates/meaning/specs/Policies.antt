@@ -30,6 +30,7 @@ asks d a p = cond (excepted d p) (sameAction a (opposite (d .action))) (sameActi
 unfoldable pub asked : Policy → Action → Packet → Bool
 asked policy a p = someOf (λ (d : Directive). asks d a p) (policy .directives)
 
+-- the same, as a statement
 abbrev pub Asked : Policy → Action → Packet → Type 0
 Asked policy a p = T (asked policy a p)
 

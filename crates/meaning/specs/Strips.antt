@@ -27,10 +27,11 @@ strips c = length (c .places)
 abbrev pub place : Cut → ℕ → ℕ
 place c i = getD (c .places) i (c .size)
 
--- the sizes of fields, and their numbers of strips
+-- the sizes of cut fields
 abbrev pub sizes : List Cut → List ℕ
 sizes cs = map (λ (c : Cut). c .size) cs
 
+-- their numbers of strips
 abbrev pub counts : List Cut → List ℕ
 counts cs = map strips cs
 
@@ -76,10 +77,10 @@ cutAt [] (s ∷ b) = false
 cutAt (c ∷ cs) [] = false
 cutAt (c ∷ cs) (s ∷ b) = isPlace c (s .low) && isPlace c (suc (s .high)) && cutAt cs b
 
--- for its block and its exceptions
+-- the same for the block and the exceptions of a directive
 unfoldable pub cutForDirective : List Cut → Directive → Bool
 cutForDirective cs d = cutAt cs (d .block) && allOf (cutAt cs) (d .exceptions)
 
--- for every block of a table and a policy
+-- the same for every block of a table and a policy
 unfoldable pub cutFor : List Cut → Table → Policy → Bool
 cutFor cs rules policy = allOf (λ (r : Rule). cutAt cs (r .block)) rules && allOf (cutForDirective cs) (policy .directives)
