@@ -1,0 +1,34 @@
+-- What the types of this crate stand for among `meaning`'s lists.
+use mathlib.Core.Bool.{Bool, true, _&&_}
+use mathlib.Core.Path.{_≡_}
+use mathlib.Core.List.{List, [], _∷_}
+use Prim.Native.Nat.{ℕ}
+use lib.Dec.{leb}
+use Rattle.meaning.specs.Blocks as blocks
+use Rattle.meaning.specs.Fields as fields
+use Rattle.blocks.specs.declared.Span.{Span}
+use Rattle.blocks.specs.declared.Block.{Block}
+use Rattle.blocks.specs.declared.Packet.{Packet}
+use Rattle.blocks.specs.declared.Narrowed.{Narrowed}
+
+-- a span's two bounds
+abbrev pub spanOf : Span → blocks.Span
+spanOf s = record { low = s .low; high = s .high }
+
+-- a span for each field, in the order of the fields
+abbrev pub blockOf : Block → blocks.Block
+blockOf b = spanOf (b .source) ∷ spanOf (b .destination) ∷ spanOf (b .protocol) ∷ spanOf (b .port) ∷ []
+
+-- a number for each field, in the order of the fields
+abbrev pub packetOf : Packet → fields.Packet
+packetOf p = p .source ∷ p .destination ∷ p .protocol ∷ p .port ∷ []
+
+-- no low is above its high
+unfoldable pub rising : blocks.Block → Bool
+rising [] = true
+rising (s ∷ b) = leb (s .low) (s .high) && rising b
+
+-- r is what narrowing b in field k, counted from 0, hands back: the block, and whether numbers were shared
+pub record NarrowedIn (k : ℕ) (bounds : Span) (b : Block) (r : Narrowed) : Type 0 where
+  pub block : blockOf (r .block) ≡ blocks.narrow k (spanOf bounds) (blockOf b)
+  pub told : r .shared ≡ blocks.narrows k (spanOf bounds) (blockOf b)

@@ -1,0 +1,259 @@
+// Spans, blocks and packets as values that a program can hold, and the calls over one block: whether it holds a packet,
+// whether it lies inside another, and narrowing in one field. Bounds and numbers have 32 bits, so those of the small
+// fields can be past the largest; every call answers for every value all the same. Each contract says that the answer is
+// what `meaning` defines for the lists that the values stand for (specs/Vocabulary), and so leaves one answer only.
+
+ghost use mathlib.Core.Bool.{_&&_};
+ghost use mathlib.Core.Path.{_≡_};
+ghost use Prim.Native.Nat.{min, max};
+ghost use lib.Dec.{leb};
+ghost use Rattle.meaning.specs.Blocks.{within, holds, inside, widest, shares, narrowSpan};
+ghost use Rattle.meaning.specs.Fields.{fields, lowest};
+ghost use Rattle.meaning.specs.Form.{blockInForm, packetInForm};
+ghost use Rattle.blocks.specs.Vocabulary.{spanOf, blockOf, packetOf, rising, NarrowedIn};
+
+// The numbers from low to high, both included; none if low is above high.
+pub struct Span {
+    pub low: u32,
+    pub high: u32,
+}
+
+// A span for each field.
+pub struct Block {
+    pub source: Span,
+    pub destination: Span,
+    pub protocol: Span,
+    pub port: Span,
+}
+
+// A number for each field.
+pub struct Packet {
+    pub source: u32,
+    pub destination: u32,
+    pub protocol: u32,
+    pub port: u32,
+}
+
+// What narrowing hands back: the block, and whether numbers were shared. Where none were, the block is as it was.
+pub struct Narrowed {
+    pub block: Block,
+    pub shared: bool,
+}
+
+// A span narrowed, and whether numbers were shared.
+struct NarrowedSpan {
+    span: Span,
+    shared: bool,
+}
+
+fn higher(a: u32, b: u32) -> u32
+    ensures { λ r. ⌜ r ≡ max a b ⌝ }
+{
+    if a < b { b } else { a }
+}
+
+fn lower(a: u32, b: u32) -> u32
+    ensures { λ r. ⌜ r ≡ min a b ⌝ }
+{
+    if a < b { a } else { b }
+}
+
+impl Span {
+    // Whether the span holds the number.
+    fn within(self, number: u32) -> bool
+        ensures { λ r. ⌜ r ≡ within (spanOf self) number ⌝ }
+    {
+        if self.low <= number {
+            number <= self.high
+        } else {
+            false
+        }
+    }
+
+    // Whether both bounds lie between the other's.
+    fn between(self, other: Span) -> bool
+        ensures { λ r. ⌜ r ≡ (leb (other .low) (self .low) && leb (self .high) (other .high)) ⌝ }
+    {
+        if other.low <= self.low {
+            self.high <= other.high
+        } else {
+            false
+        }
+    }
+
+    // The numbers shared with the bounds; where there are none, the span as it was.
+    fn narrow(self, bounds: Span) -> NarrowedSpan
+        ensures { λ r. ⌜ (spanOf (r .span) ≡ narrowSpan (spanOf self) (spanOf bounds)) × (r .shared ≡ shares (spanOf self) (spanOf bounds)) ⌝ }
+    {
+        let low = higher(self.low, bounds.low);
+        let high = lower(self.high, bounds.high);
+        if low <= high {
+            NarrowedSpan {
+                span: Span { low, high },
+                shared: true,
+            }
+        } else {
+            NarrowedSpan {
+                span: self,
+                shared: false,
+            }
+        }
+    }
+}
+
+impl Packet {
+    // The lowest packet, all zeros.
+    pub const LOWEST: Packet = Packet {
+        source: 0,
+        destination: 0,
+        protocol: 0,
+        port: 0,
+    };
+
+    // The constant as a call, so that a contract can say of it what its name says.
+    pub fn lowest() -> Packet
+        ensures { λ r. ⌜ packetOf r ≡ lowest fields ⌝ }
+    {
+        Packet::LOWEST
+    }
+
+    // Whether the packet is in form: no number past its field's largest.
+    pub fn in_form(self) -> bool
+        ensures { λ r. ⌜ r ≡ packetInForm fields (packetOf self) ⌝ }
+    {
+        Block::WIDEST.holds(self)
+    }
+}
+
+impl Block {
+    // The widest block, open in all four fields.
+    pub const WIDEST: Block = Block {
+        source: Span {
+            low: 0,
+            high: 4294967295,
+        },
+        destination: Span {
+            low: 0,
+            high: 4294967295,
+        },
+        protocol: Span { low: 0, high: 255 },
+        port: Span {
+            low: 0,
+            high: 65535,
+        },
+    };
+
+    // The constant as a call, so that a contract can say of it what its name says.
+    pub fn widest() -> Block
+        ensures { λ r. ⌜ blockOf r ≡ widest fields ⌝ }
+    {
+        Block::WIDEST
+    }
+
+    // Whether the block holds the packet: each span its number.
+    pub fn holds(self, packet: Packet) -> bool
+        ensures { λ r. ⌜ r ≡ holds (blockOf self) (packetOf packet) ⌝ }
+    {
+        if self.source.within(packet.source) {
+            if self.destination.within(packet.destination) {
+                if self.protocol.within(packet.protocol) {
+                    return self.port.within(packet.port);
+                }
+            }
+        }
+        false
+    }
+
+    // Whether the block lies inside the other, bound by bound.
+    pub fn inside(self, other: Block) -> bool
+        ensures { λ r. ⌜ r ≡ inside (blockOf self) (blockOf other) ⌝ }
+    {
+        if self.source.between(other.source) {
+            if self.destination.between(other.destination) {
+                if self.protocol.between(other.protocol) {
+                    return self.port.between(other.port);
+                }
+            }
+        }
+        false
+    }
+
+    // Whether no low is above its high.
+    fn rising(self) -> bool
+        ensures { λ r. ⌜ r ≡ rising (blockOf self) ⌝ }
+    {
+        if self.source.low <= self.source.high {
+            if self.destination.low <= self.destination.high {
+                if self.protocol.low <= self.protocol.high {
+                    return self.port.low <= self.port.high;
+                }
+            }
+        }
+        false
+    }
+
+    // Whether the block is in form: no low above its high, no number past its field's largest.
+    pub fn in_form(self) -> bool
+        ensures { λ r. ⌜ r ≡ blockInForm fields (blockOf self) ⌝ }
+    {
+        if self.rising() {
+            self.inside(Block::WIDEST)
+        } else {
+            false
+        }
+    }
+
+    // The block with its sources narrowed to those that it shares with the bounds; the other fields stay. So for each
+    // field, and one narrowing may follow another: `b.narrow_source(s).block.narrow_port(p).block`.
+    pub fn narrow_source(self, bounds: Span) -> Narrowed
+        ensures { λ r. ⌜ NarrowedIn 0 bounds self r ⌝ }
+    {
+        let narrowed = self.source.narrow(bounds);
+        let span = narrowed.span;
+        let mut block = self;
+        block.source = span;
+        Narrowed {
+            block,
+            shared: narrowed.shared,
+        }
+    }
+
+    pub fn narrow_destination(self, bounds: Span) -> Narrowed
+        ensures { λ r. ⌜ NarrowedIn 1 bounds self r ⌝ }
+    {
+        let narrowed = self.destination.narrow(bounds);
+        let span = narrowed.span;
+        let mut block = self;
+        block.destination = span;
+        Narrowed {
+            block,
+            shared: narrowed.shared,
+        }
+    }
+
+    pub fn narrow_protocol(self, bounds: Span) -> Narrowed
+        ensures { λ r. ⌜ NarrowedIn 2 bounds self r ⌝ }
+    {
+        let narrowed = self.protocol.narrow(bounds);
+        let span = narrowed.span;
+        let mut block = self;
+        block.protocol = span;
+        Narrowed {
+            block,
+            shared: narrowed.shared,
+        }
+    }
+
+    pub fn narrow_port(self, bounds: Span) -> Narrowed
+        ensures { λ r. ⌜ NarrowedIn 3 bounds self r ⌝ }
+    {
+        let narrowed = self.port.narrow(bounds);
+        let span = narrowed.span;
+        let mut block = self;
+        block.port = span;
+        Narrowed {
+            block,
+            shared: narrowed.shared,
+        }
+    }
+}

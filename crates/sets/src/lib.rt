@@ -1,0 +1,308 @@
+// Rules and policies as values that a program can hold, labels and refusals, and whether sets and packets are in form. A set
+// has a record for each place up to its limit and a count; records past the count are not looked at. Every call answers for
+// every value: what is not in form is refused by number 14, exactly when document 01 says so. Each contract says that the
+// answer is what `meaning` defines for what the values stand for (specs/Standing), and so leaves one answer only.
+
+use blocks::Block;
+use blocks::Packet;
+use blocks::Span;
+ghost use mathlib.Core.Bool.{cond, _&&_};
+ghost use mathlib.Core.Path.{_≡_};
+ghost use Prim.Native.Nat.{_≤_};
+ghost use lib.Dec.{leb};
+ghost use lib.ListN.{take};
+ghost use Rattle.meaning.specs.Blocks.{inside};
+ghost use Rattle.meaning.specs.Fields.{fields};
+ghost use Rattle.meaning.specs.Form.{unrefused, outOfForm, blockInForm, rulesInForm, exceptionsInForm, policyInForm, refuseRules, refusePolicy, refusePacket, refuseSets, refuseLabel};
+ghost use Rattle.meaning.specs.Labels.{kind, rule};
+ghost use Rattle.meaning.specs.Records.{allOf};
+ghost use Rattle.blocks.specs.Vocabulary.{blockOf, packetOf};
+ghost use Rattle.sets.specs.Standing.{labelOf, refusalOf, ruleSetOf, policySetOf, directivesOf, exceptionsOf, inForm, emptyRules, emptyPolicy};
+
+// The limits of the sets.
+pub const MOST_RULES: usize = 64;
+
+pub const MOST_DIRECTIVES: usize = 32;
+
+pub const MOST_EXCEPTIONS: usize = 64;
+
+// What a rule does, and what a directive asks for. Deny stands first: it is the zero record's action.
+pub enum Action {
+    Deny,
+    Accept,
+}
+
+pub struct Rule {
+    pub action: Action,
+    pub block: Block,
+}
+
+// A rule table: its rules are numbered from 1 and stand in the records from 0 on.
+pub struct Rules {
+    pub count: usize,
+    pub records: [Rule; MOST_RULES],
+}
+
+// A directive without its exceptions.
+pub struct Directive {
+    pub action: Action,
+    pub block: Block,
+}
+
+// An exception of the directive with this number, counted from 1.
+pub struct Exception {
+    pub directive: u32,
+    pub block: Block,
+}
+
+pub struct Policy {
+    pub directive_count: usize,
+    pub directives: [Directive; MOST_DIRECTIVES],
+    pub exception_count: usize,
+    pub exceptions: [Exception; MOST_EXCEPTIONS],
+}
+
+// A packet's label. Wrong and Unasked carry the number of the deciding rule.
+pub enum Label {
+    Good,
+    Conflict,
+    Wrong(u32),
+    Unasked(u32),
+    UnmetAccept,
+    UnmetDeny,
+}
+
+// Why a call gave no answer; all zeros if it gave one.
+pub struct Refusal {
+    pub number: u32,
+    pub line: u32,
+    pub field: u32,
+}
+
+const ZERO: Block = Block {
+    source: Span { low: 0, high: 0 },
+    destination: Span { low: 0, high: 0 },
+    protocol: Span { low: 0, high: 0 },
+    port: Span { low: 0, high: 0 },
+};
+
+impl Rules {
+    // The empty table, all records zero.
+    pub const EMPTY: Rules = Rules {
+        count: 0,
+        records: [Rule {
+            action: Action::Deny,
+            block: ZERO,
+        }; MOST_RULES],
+    };
+
+    pub fn empty() -> Rules
+        ensures { λ r. ⌜ r ≡ emptyRules ⌝ }
+    {
+        Rules::EMPTY
+    }
+}
+
+impl Policy {
+    // The empty policy, all records zero.
+    pub const EMPTY: Policy = Policy {
+        directive_count: 0,
+        directives: [Directive {
+            action: Action::Deny,
+            block: ZERO,
+        }; MOST_DIRECTIVES],
+        exception_count: 0,
+        exceptions: [Exception {
+            directive: 0,
+            block: ZERO,
+        }; MOST_EXCEPTIONS],
+    };
+
+    pub fn empty() -> Policy
+        ensures { λ r. ⌜ r ≡ emptyPolicy ⌝ }
+    {
+        Policy::EMPTY
+    }
+}
+
+impl Label {
+    // The number of the label's kind.
+    pub fn kind(self) -> u32
+        ensures { λ r. ⌜ r ≡ kind (labelOf self) ⌝ }
+    {
+        match self {
+            Label::Good => 0,
+            Label::Conflict => 1,
+            Label::Wrong(_) => 2,
+            Label::Unasked(_) => 3,
+            Label::UnmetAccept => 4,
+            Label::UnmetDeny => 5,
+        }
+    }
+
+    // The number of the rule in the label, or 0.
+    pub fn rule(self) -> u32
+        ensures { λ r. ⌜ r ≡ rule (labelOf self) ⌝ }
+    {
+        match self {
+            Label::Good => 0,
+            Label::Conflict => 0,
+            Label::Wrong(n) => n,
+            Label::Unasked(n) => n,
+            Label::UnmetAccept => 0,
+            Label::UnmetDeny => 0,
+        }
+    }
+}
+
+fn rules_in_form(rules: Rules) -> bool
+    ensures { λ r. ⌜ r ≡ rulesInForm fields (ruleSetOf rules) ⌝ }
+{
+    if MOST_RULES < rules.count {
+        return false;
+    }
+    let mut i: usize = 0;
+    while i < rules.count {
+        let rule = rules.records[i];
+        if rule.block.in_form() {
+            i += 1;
+        } else {
+            return false;
+        }
+    }
+    true
+}
+
+fn directives_in_form(policy: Policy) -> bool
+    requires { ⌜ policy .«directive_count» ≤ 32 ⌝ }
+    ensures { λ r. ⌜ r ≡ allOf inForm (directivesOf policy) ⌝ }
+{
+    let mut i: usize = 0;
+    while i < policy.directive_count {
+        let directive = policy.directives[i];
+        if directive.block.in_form() {
+            i += 1;
+        } else {
+            return false;
+        }
+    }
+    true
+}
+
+// Whether an exception is in form beside the directive that it names, where the exception before it named `before`.
+fn exception_in_form(exception: Exception, before: u32, directive: Directive) -> bool
+    ensures { λ r. ⌜ r ≡ (leb before (exception .directive) && inside (blockOf (exception .block)) (blockOf (directive .block)) && blockInForm fields (blockOf (exception .block))) ⌝ }
+{
+    if before <= exception.directive {
+        if exception.block.inside(directive.block) {
+            return exception.block.in_form();
+        }
+    }
+    false
+}
+
+fn exceptions_in_form(policy: Policy) -> bool
+    requires { ⌜ (policy .«directive_count» ≤ 32) × (policy .«exception_count» ≤ 64) ⌝ }
+    ensures { λ r. ⌜ r ≡ exceptionsInForm fields (directivesOf policy) 0 (exceptionsOf policy) ⌝ }
+{
+    let mut before: u32 = 0;
+    let mut i: usize = 0;
+    while i < policy.exception_count {
+        let exception = policy.exceptions[i];
+        let named = exception.directive as usize;
+        if named == 0 {
+            return false;
+        }
+        if policy.directive_count < named {
+            return false;
+        }
+        let directive = policy.directives[named - 1];
+        if exception_in_form(exception, before, directive) {
+            before = exception.directive;
+            i += 1;
+        } else {
+            return false;
+        }
+    }
+    true
+}
+
+fn policy_in_form(policy: Policy) -> bool
+    ensures { λ r. ⌜ r ≡ policyInForm fields (policySetOf policy) ⌝ }
+{
+    if MOST_DIRECTIVES < policy.directive_count {
+        return false;
+    }
+    if MOST_EXCEPTIONS < policy.exception_count {
+        return false;
+    }
+    if directives_in_form(policy) {
+        exceptions_in_form(policy)
+    } else {
+        false
+    }
+}
+
+// No refusal if what was looked at is in form, else 14 and what it was.
+fn refuse_unless(in_form: bool, what: u32) -> Refusal
+    ensures { λ r. ⌜ refusalOf r ≡ cond «in_form» unrefused (outOfForm what) ⌝ }
+{
+    if in_form {
+        Refusal {
+            number: 0,
+            line: 0,
+            field: 0,
+        }
+    } else {
+        Refusal {
+            number: 14,
+            line: what,
+            field: 0,
+        }
+    }
+}
+
+// 14 with 1 exactly if the rules are not in form.
+pub fn refuse_rules(rules: Rules) -> Refusal
+    ensures { λ r. ⌜ refusalOf r ≡ refuseRules fields (ruleSetOf rules) ⌝ }
+{
+    refuse_unless(rules_in_form(rules), 1)
+}
+
+// 14 with 2 exactly if the policy is not in form.
+pub fn refuse_policy(policy: Policy) -> Refusal
+    ensures { λ r. ⌜ refusalOf r ≡ refusePolicy fields (policySetOf policy) ⌝ }
+{
+    refuse_unless(policy_in_form(policy), 2)
+}
+
+// 14 with 3 exactly if the packet is not in form.
+pub fn refuse_packet(packet: Packet) -> Refusal
+    ensures { λ r. ⌜ refusalOf r ≡ refusePacket fields (packetOf packet) ⌝ }
+{
+    refuse_unless(packet.in_form(), 3)
+}
+
+// What a call on both sets refuses: the rules first, then the policy.
+pub fn refuse_sets(rules: Rules, policy: Policy) -> Refusal
+    ensures { λ r. ⌜ refusalOf r ≡ refuseSets fields (ruleSetOf rules) (policySetOf policy) ⌝ }
+{
+    let refusal = refuse_rules(rules);
+    if refusal.number == 0 {
+        refuse_policy(policy)
+    } else {
+        refusal
+    }
+}
+
+// What a call on both sets and a packet refuses: the sets first, then the packet.
+pub fn refuse_label(rules: Rules, policy: Policy, packet: Packet) -> Refusal
+    ensures { λ r. ⌜ refusalOf r ≡ refuseLabel fields (ruleSetOf rules) (policySetOf policy) (packetOf packet) ⌝ }
+{
+    let refusal = refuse_sets(rules, policy);
+    if refusal.number == 0 {
+        refuse_packet(packet)
+    } else {
+        refusal
+    }
+}
