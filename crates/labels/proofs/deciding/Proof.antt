@@ -1,0 +1,112 @@
+use Rattle.labels.proofs.Firsts.{firstLeft, first-here, first-later, first-over}
+use Rattle.sets.proofs.Walks.{length-of-map}
+use Rattle.sets.specs.Standing.{ruleOf, ruleSetOf, zeroRule}
+use Rattle.blocks.specs.Vocabulary.{packetOf}
+use Rattle.meaning.specs.Rules as meaning
+use Rattle.meaning.specs.Form.{tableOf}
+use Rattle.meaning.specs.Blocks.{holds}
+use lib.ListN.{length, getD}
+use borrow.Author.Needs.{needs}
+use native.Mathlib.Omega.{arith}
+use Prim.Native.Nat.{_-_, _+_, _≤_, min}
+use mathlib.Core.Path.{_≡_, refl, sym, ap, _∙_}
+use mathlib.Core.Bool.{Bool, true, false}
+use Rattle.labels.proofs.deciding.Statement.{statement}
+use Rattle.labels.proofs.deciding.Tie as tie
+use Rattle.labels.proofs.deciding.Reads as reads
+use Rattle.labels.proofs.deciding.Lts as lts
+use Rattle.blocks.proofs.Block.holds.Reads as holds-reads
+use Rattle.labels.proofs.at_most.Reads as at-most-reads
+
+abbrev Inv-loop : tie.InvT-loop
+Inv-loop packet rules count i₀ i =
+    (count ≡ min (rules .count) 64)
+    × (i ≤ count)
+    × (meaning.deciding (tableOf (ruleSetOf rules)) (packetOf packet)
+    ≡ firstLeft ruleOf (rules .records) (rules .count) (λ (r : meaning.Rule). holds (r .block) (packetOf packet)) i)
+
+abbrev μ-loop : tie.MeasureT-loop
+μ-loop packet rules count i₀ i = count - i
+
+-- src/lib.rt:134:9
+at-most-requires : tie.Need-at-most-requires Inv-loop μ-loop
+at-most-requires c κs = search needs
+
+-- src/lib.rt:136:5
+loop-holds : tie.Need-loop-holds Inv-loop μ-loop
+unfolding meaning.deciding
+loop-holds c = (c .at-most .ensures, omega arith, refl)
+
+-- src/lib.rt:137:20
+mul-rule : tie.Need-mul-rule Inv-loop μ-loop
+mul-rule c = search needs
+
+-- src/lib.rt:137:20
+element-copy-out-rule : tie.Need-element-copy-out-rule Inv-loop μ-loop
+element-copy-out-rule c = search needs
+
+-- src/lib.rt:138:9
+add-i : tie.Need-add-i Inv-loop μ-loop
+add-i c = search needs
+
+-- src/lib.rt:139:12
+holds-requires : tie.Need-holds-requires Inv-loop μ-loop
+holds-requires c κs = search needs
+
+-- src/lib.rt:140:32
+cast-t14 : tie.Need-cast-t14 Inv-loop μ-loop
+cast-t14 c = search needs
+
+-- src/lib.rt:140:13
+returns : tie.Need-returns Inv-loop μ-loop
+returns c =
+    let rules = c .before .before .before .before .before .before .args .t1 in
+    let packet = c .before .before .before .before .before .before .args .packet in
+    let full : length (rules .records) ≡ 64 = search (needs, length-of-map) in
+    sym
+    (c .before .before .before .before .loop .inv .2
+    ∙ first-here ruleOf (rules .records) (rules .count) (λ (r : meaning.Rule). holds (r .block) (packetOf packet)) (c .before .before .before .before .loop .i) zeroRule (omega arith) (omega arith) (sym (c .before .holds .ensures) ∙ c .if1 .taken))
+
+-- src/lib.rt:136:5
+loop-less : tie.Need-loop-less Inv-loop μ-loop
+loop-less c = search needs
+
+-- src/lib.rt:136:5
+loop-again : tie.Need-loop-again Inv-loop μ-loop
+loop-again c =
+    let rules = c .before .before .before .before .before .before .args .t1 in
+    let packet = c .before .before .before .before .before .before .args .packet in
+    let full : length (rules .records) ≡ 64 = search (needs, length-of-map) in (
+      c .before .before .before .before .loop .inv .0,
+      omega arith,
+      c .before .before .before .before .loop .inv .2
+          ∙ first-later ruleOf (rules .records) (rules .count) (λ (r : meaning.Rule). holds (r .block) (packetOf packet)) (c .before .before .before .before .loop .i) zeroRule (omega arith) (omega arith) (sym (c .before .holds .ensures) ∙ c .if1 .left),
+    )
+
+-- src/lib.rt:131:1
+returns-2 : tie.Need-returns-2 Inv-loop μ-loop
+returns-2 c =
+    let rules = c .before .before .before .args .t1 in
+    let packet = c .before .before .before .args .packet in
+    let full : length (rules .records) ≡ 64 = search (needs, length-of-map) in
+    sym
+    (c .before .loop .inv .2
+    ∙ first-over ruleOf (rules .records) (rules .count) (λ (r : meaning.Rule). holds (r .block) (packetOf packet)) (c .before .loop .i) (omega arith))
+
+pub deciding-spec : {M : Type 1} → statement M
+deciding-spec =
+    tie.close
+    (tie.spec
+    Inv-loop
+    μ-loop
+    at-most-requires
+    loop-holds
+    mul-rule
+    element-copy-out-rule
+    add-i
+    holds-requires
+    cast-t14
+    returns
+    loop-less
+    loop-again
+    returns-2)
