@@ -89,9 +89,11 @@ impl Script {
 
     fn label(&mut self, packet: Packet) {
         self.request('l', &[&packet.0]);
+        self.request('a', &[&packet.0]);
     }
 
     fn form_and_label(&mut self, packet: Packet) {
+        self.request('s', &[]);
         self.request('f', &[&packet.0]);
         self.label(packet);
     }
@@ -155,7 +157,10 @@ mod tests {
         let mut script = Script::new();
         labels::write(&mut script, &mut Random::new(SEED));
         let answers = answers(&script.text);
-        let labels: Vec<&str> = answers.lines().collect();
+        let labels: Vec<&str> = answers
+            .lines()
+            .filter(|line| line.starts_with("label "))
+            .collect();
         assert!(labels.len() >= 400);
         for kind in 0..6 {
             let start = format!("label 0 0 0 {kind} ");
@@ -183,7 +188,7 @@ mod tests {
     #[test]
     fn both_answers_about_blocks_are_common() {
         let answers = answers(&requests());
-        for word in ["holds", "inside", "narrow"] {
+        for word in ["holds", "inside", "narrow", "block"] {
             for yes_or_no in 0..2 {
                 let start = format!("{word} {yes_or_no}");
                 let count = answers

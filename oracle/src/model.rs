@@ -199,10 +199,11 @@ impl RuleSet {
         refuse_unless(in_form, RULES)
     }
 
-    /// The number and action of the lowest-numbered rule that holds the packet.
-    fn deciding(&self, packet: Packet) -> Option<(u32, Action)> {
+    /// The number and action of the lowest-numbered rule that holds the packet,
+    /// by the records within the count, as far as there are records.
+    pub fn deciding(&self, packet: Packet) -> Option<(u32, Action)> {
         (1..)
-            .zip(self.counted()?)
+            .zip(self.records.iter().take(self.count as usize))
             .find(|(_, rule)| rule.block.holds(packet))
             .map(|(number, rule)| (number, rule.action))
     }
@@ -248,21 +249,24 @@ impl PolicySet {
         refuse_unless(in_form, POLICY)
     }
 
-    /// Whether some directive asks for this action on the packet.
-    fn asks(&self, action: Action, packet: Packet) -> bool {
-        let Some((directives, exceptions)) = self.counted() else {
-            return false;
-        };
-        (1..).zip(directives).any(|(number, directive)| {
-            let excepted = exceptions
-                .iter()
-                .any(|exception| exception.directive == number && exception.block.holds(packet));
-            if excepted {
-                action == directive.action.opposite()
-            } else {
-                directive.block.holds(packet) && action == directive.action
-            }
-        })
+    /// The lowest directive that asks for this action on the packet, by the
+    /// records within the counts, as far as there are records.
+    pub fn lowest_asking(&self, action: Action, packet: Packet) -> Option<u32> {
+        let directives = self.directives.iter().take(self.directive_count as usize);
+        let exceptions = || self.exceptions.iter().take(self.exception_count as usize);
+        (1..)
+            .zip(directives)
+            .find(|(number, directive)| {
+                let excepted = exceptions().any(|exception| {
+                    exception.directive == *number && exception.block.holds(packet)
+                });
+                if excepted {
+                    action == directive.action.opposite()
+                } else {
+                    directive.block.holds(packet) && action == directive.action
+                }
+            })
+            .map(|(number, _)| number)
     }
 }
 
@@ -329,8 +333,8 @@ pub fn label(rules: &RuleSet, policy: &PolicySet, packet: Packet) -> Result<Labe
     rules.form()?;
     policy.form()?;
     packet.form()?;
-    let accept = policy.asks(Action::Accept, packet);
-    let deny = policy.asks(Action::Deny, packet);
+    let accept = policy.lowest_asking(Action::Accept, packet).is_some();
+    let deny = policy.lowest_asking(Action::Deny, packet).is_some();
     let (kind, rule) = match (accept, deny, rules.deciding(packet)) {
         (true, true, _) => (Kind::Conflict, 0),
         (true, false, Some((number, Action::Deny))) => (Kind::Wrong, number),

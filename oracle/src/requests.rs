@@ -83,7 +83,16 @@ impl State {
                 return Ok(None);
             }
             'f' => self.form(packet(&numbers)),
+            's' => {
+                let sets = self.rules.form().and_then(|()| self.policy.form());
+                told("sets", &refusal(sets))
+            }
             'l' => self.label(packet(&numbers)),
+            'a' => self.at(packet(&numbers)),
+            'b' => {
+                let in_form = block(&numbers).in_form();
+                told("block", &[u32::from(in_form)])
+            }
             'h' => {
                 let holds = block(&numbers).holds(packet(&numbers[8..]));
                 told("holds", &[u32::from(holds)])
@@ -117,6 +126,18 @@ impl State {
         };
         told("label", &numbers)
     }
+
+    /// The number and action of the deciding rule, and the lowest directives that
+    /// ask for accept and for deny; zeros where there are none.
+    fn at(&self, packet: Packet) -> String {
+        let (rule, action) = self
+            .rules
+            .deciding(packet)
+            .map_or((0, 0), |(number, action)| (number, action as u32));
+        let asking = |action| self.policy.lowest_asking(action, packet).unwrap_or(0);
+        let numbers = [rule, action, asking(Action::Accept), asking(Action::Deny)];
+        told("at", &numbers)
+    }
 }
 
 fn narrow(numbers: &[u32]) -> Result<String, &'static str> {
@@ -148,10 +169,11 @@ fn chain(numbers: &[u32]) -> String {
 /// How many numbers follow the letter.
 fn size(letter: char) -> Option<usize> {
     Some(match letter {
-        'w' => 0,
+        's' | 'w' => 0,
         'R' => 1,
         'P' => 2,
-        'f' | 'l' => 4,
+        'a' | 'f' | 'l' => 4,
+        'b' => 8,
         'r' | 'd' | 'e' => 10,
         'n' => 11,
         'h' => 12,
@@ -230,15 +252,17 @@ mod tests {
 
     #[test]
     fn each_request_is_answered_in_its_own_words() {
-        let text = "# words\n\nw\nR 65\nf 0 0 256 0\nl 0 0 256 0\nR 1\nr 1 1 0 9 0 9 0 9 0 9\n\
-            l 1 2 3 4\nP 1 1\ne 1 1 0 0 0 0 0 0 0 0\nl 0 0 0 0\n\
+        let text = "# words\n\nw\nR 65\ns\nf 0 0 256 0\nl 0 0 256 0\nR 1\nr 1 1 0 9 0 9 0 9 0 9\n\
+            l 1 2 3 4\na 1 2 3 4\nP 1 1\ne 1 1 0 0 0 0 0 0 0 0\nl 0 0 0 0\na 0 0 0 0\ns\n\
+            b 1 1 2 2 0 255 0 65535\nb 1 1 2 2 0 256 0 65535\nb 1 0 2 2 0 255 0 65535\n\
             h 1 2 3 4 5 6 7 8 1 4 5 8\nh 2 1 3 4 5 6 7 8 1 4 5 8\n\
             i 2 1 0 0 0 0 0 0 2 1 0 0 0 0 0 0\ni 1 1 0 0 0 0 0 0 2 2 0 0 0 0 0 0\n\
             n 3 5 300 1 2 3 4 0 9 7 8\nn 3 9 5 1 2 3 4 0 9 7 8\n\
             c 0 1 5 9 6 6 8 7 1 2 3 4 5 6 7 8\n";
         let expected = "\
             widest 0 4294967295 0 4294967295 0 255 0 65535 lowest 0 0 0 0\n\
-            form 14 1 0 0 0 0 14 3 0\nlabel 14 1 0 0 0\nlabel 0 0 0 3 1\nlabel 0 0 0 0 0\n\
+            sets 14 1 0\nform 14 1 0 0 0 0 14 3 0\nlabel 14 1 0 0 0\nlabel 0 0 0 3 1\nat 1 1 0 0\n\
+            label 0 0 0 0 0\nat 1 1 1 0\nsets 0 0 0\nblock 1\nblock 0\nblock 0\n\
             holds 1\nholds 0\ninside 1\ninside 0\n\
             narrow 1 1 2 3 4 5 9 7 8\nnarrow 0 1 2 3 4 0 9 7 8\n\
             chain 1 0 1 0 1 1 3 4 6 6 7 8\n";

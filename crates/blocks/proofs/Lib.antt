@@ -1,1 +1,3 @@
 pub mod Widest
+pub mod OneAnswer
+pub mod Named

@@ -3,11 +3,11 @@
 use mathlib.Core.Bool.{Bool, true, false, _&&_, and-false}
 use mathlib.Core.List.{List, [], _∷_, map}
 use mathlib.Core.Path.{_≡_, refl, ap, sym, _∙_}
-use lib.Pow.{pow-pos}
 use native.Mathlib.Omega.{arith}
 use Prim.Native.Nat.{ℕ, _-_, _<_, _≤_, _^_}
 use borrow.Author.Tests.{le-leb}
-use lib.Dec.{T, leb, ltb, leb→le, le→leb, ltb→lt, lt→ltb}
+use lib.Dec.{leb, ltb, leb→le, le→leb, ltb→lt, lt→ltb}
+use lib.Pow.{pow-pos}
 use Rattle.meaning.specs.Blocks.{Block, within, holds, inside, widest}
 use Rattle.meaning.specs.Fields.{sizeOf, Packet}
 use Rattle.meaning.specs.Form.{blockInForm, packetInForm}

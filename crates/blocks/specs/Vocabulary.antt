@@ -1,15 +1,15 @@
 -- What the types of this crate stand for among `meaning`'s lists.
 use mathlib.Core.Bool.{Bool, true, _&&_}
+use mathlib.Core.List.{[], _∷_}
 use mathlib.Core.Path.{_≡_}
-use mathlib.Core.List.{List, [], _∷_}
 use Prim.Native.Nat.{ℕ}
 use lib.Dec.{leb}
 use Rattle.meaning.specs.Blocks as blocks
 use Rattle.meaning.specs.Fields as fields
-use Rattle.blocks.specs.declared.Span.{Span}
 use Rattle.blocks.specs.declared.Block.{Block}
-use Rattle.blocks.specs.declared.Packet.{Packet}
 use Rattle.blocks.specs.declared.Narrowed.{Narrowed}
+use Rattle.blocks.specs.declared.Packet.{Packet}
+use Rattle.blocks.specs.declared.Span.{Span}
 
 -- a span's two bounds
 abbrev pub spanOf : Span → blocks.Span

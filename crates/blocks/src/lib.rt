@@ -40,67 +40,6 @@ pub struct Narrowed {
     pub shared: bool,
 }
 
-// A span narrowed, and whether numbers were shared.
-struct NarrowedSpan {
-    span: Span,
-    shared: bool,
-}
-
-fn higher(a: u32, b: u32) -> u32
-    ensures { λ r. ⌜ r ≡ max a b ⌝ }
-{
-    if a < b { b } else { a }
-}
-
-fn lower(a: u32, b: u32) -> u32
-    ensures { λ r. ⌜ r ≡ min a b ⌝ }
-{
-    if a < b { a } else { b }
-}
-
-impl Span {
-    // Whether the span holds the number.
-    fn within(self, number: u32) -> bool
-        ensures { λ r. ⌜ r ≡ within (spanOf self) number ⌝ }
-    {
-        if self.low <= number {
-            number <= self.high
-        } else {
-            false
-        }
-    }
-
-    // Whether both bounds lie between the other's.
-    fn between(self, other: Span) -> bool
-        ensures { λ r. ⌜ r ≡ (leb (other .low) (self .low) && leb (self .high) (other .high)) ⌝ }
-    {
-        if other.low <= self.low {
-            self.high <= other.high
-        } else {
-            false
-        }
-    }
-
-    // The numbers shared with the bounds; where there are none, the span as it was.
-    fn narrow(self, bounds: Span) -> NarrowedSpan
-        ensures { λ r. ⌜ (spanOf (r .span) ≡ narrowSpan (spanOf self) (spanOf bounds)) × (r .shared ≡ shares (spanOf self) (spanOf bounds)) ⌝ }
-    {
-        let low = higher(self.low, bounds.low);
-        let high = lower(self.high, bounds.high);
-        if low <= high {
-            NarrowedSpan {
-                span: Span { low, high },
-                shared: true,
-            }
-        } else {
-            NarrowedSpan {
-                span: self,
-                shared: false,
-            }
-        }
-    }
-}
-
 impl Packet {
     // The lowest packet, all zeros.
     pub const LOWEST: Packet = Packet {
@@ -256,4 +195,67 @@ impl Block {
             shared: narrowed.shared,
         }
     }
+}
+
+// A span narrowed, and whether numbers were shared.
+struct NarrowedSpan {
+    span: Span,
+    shared: bool,
+}
+
+impl Span {
+    // Whether the span holds the number.
+    fn within(self, number: u32) -> bool
+        ensures { λ r. ⌜ r ≡ within (spanOf self) number ⌝ }
+    {
+        if self.low <= number {
+            number <= self.high
+        } else {
+            false
+        }
+    }
+
+    // Whether both bounds lie between the other's.
+    fn between(self, other: Span) -> bool
+        ensures { λ r. ⌜ r ≡ (leb (other .low) (self .low) && leb (self .high) (other .high)) ⌝ }
+    {
+        if other.low <= self.low {
+            self.high <= other.high
+        } else {
+            false
+        }
+    }
+
+    // The numbers shared with the bounds; where there are none, the span as it was.
+    fn narrow(self, bounds: Span) -> NarrowedSpan
+        ensures { λ r. ⌜ (spanOf (r .span) ≡ narrowSpan (spanOf self) (spanOf bounds)) × (r .shared ≡ shares (spanOf self) (spanOf bounds)) ⌝ }
+    {
+        let low = higher(self.low, bounds.low);
+        let high = lower(self.high, bounds.high);
+        if low <= high {
+            NarrowedSpan {
+                span: Span { low, high },
+                shared: true,
+            }
+        } else {
+            NarrowedSpan {
+                span: self,
+                shared: false,
+            }
+        }
+    }
+}
+
+// The higher of two numbers.
+fn higher(a: u32, b: u32) -> u32
+    ensures { λ r. ⌜ r ≡ max a b ⌝ }
+{
+    if a < b { b } else { a }
+}
+
+// The lower of two numbers.
+fn lower(a: u32, b: u32) -> u32
+    ensures { λ r. ⌜ r ≡ min a b ⌝ }
+{
+    if a < b { a } else { b }
 }

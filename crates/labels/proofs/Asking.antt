@@ -1,7 +1,7 @@
 -- The lowest directive that asks, walking the directives within their count; and that an action is asked just if that number
 -- is not 0. Assumes nothing.
-use mathlib.Core.Bool.{Bool, true, false, not, _&&_, cond}
-use mathlib.Core.List.{List, [], _∷_}
+use mathlib.Core.Bool.{Bool, true, false, not, _&&_}
+use mathlib.Core.List.{List, _∷_}
 use mathlib.Core.Path.{_≡_, refl, sym, ap, _∙_}
 use native.Mathlib.Numerals.{add-one}
 use native.Mathlib.Omega.{arith}
@@ -19,8 +19,10 @@ use Rattle.meaning.proofs.PolicyAsking.{LowestAsking, nobody, lowest, asking-is
 use Rattle.meaning.proofs.RecordsFirst.{number-within}
 use Rattle.meaning.proofs.Tests.{passed, failed}
 use Rattle.sets.specs.declared.Policy.{Policy}
-use Rattle.sets.specs.Standing.{directiveOf, directivesOf, exceptionsOf, policySetOf, zeroDirective}
+use Rattle.sets.specs.Empty.{zeroDirective}
+use Rattle.sets.specs.Vocabulary.{directiveOf, directivesOf, exceptionsOf, policySetOf}
 use Rattle.sets.proofs.Walks.{next, over}
+use Rattle.labels.specs.Answers.{askedBy}
 use Rattle.labels.proofs.Marks.{speaking}
 
 pub asked-by-number : (policy : policies.Policy) (a : rules.Action) (p : Packet) → policies.asked policy a p ≡ ltb 0 (policies.lowestAsking policy a p)
@@ -32,11 +34,7 @@ asked-by-number policy a p = from (policies.lowestAsking policy a p) (asking-is-
         let within = number-within (policy .directives) n d at in
         passed (policies.asked policy a p) some ∙ sym (lt-ltb 0 n (omega (arith, within .0)))
 
--- what a directive of the action `own` asks at a packet, by whether an exception of it holds the packet, and its block
-module _ (a own : rules.Action) (excepted held : Bool) where
-  abbrev pub askedBy : Bool
-  askedBy = cond excepted (rules.sameAction a (rules.opposite own)) (rules.sameAction a own && held)
-
+-- what a directive asks
 opposite-differs : (a b : rules.Action) → rules.sameAction a (rules.opposite b) ≡ not (rules.sameAction a b)
 unfolding rules.sameAction rules.opposite
 opposite-differs rules.accept rules.accept = refl

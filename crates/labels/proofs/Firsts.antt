@@ -1,9 +1,9 @@
 -- The first record that passes a test, walking the records within a count. Assumes nothing.
 use mathlib.Core.Bool.{Bool, true, false}
 use mathlib.Core.List.{List, map}
-use mathlib.Core.Path.{_≡_, refl, sym, ap, _∙_}
+use mathlib.Core.Path.{_≡_, sym, ap, _∙_}
 use native.Mathlib.Numerals.{add-one}
-use Prim.Native.Nat.{ℕ, suc, _+_, _≤_, _<_, min}
+use Prim.Native.Nat.{ℕ, _+_, _≤_, _<_, min}
 use lib.ListN.{length, take, drop, getD}
 use Rattle.meaning.specs.Records.{Found, nothing, found, firstFrom}
 use Rattle.sets.proofs.Walks.{next, over}

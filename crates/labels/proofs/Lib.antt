@@ -2,3 +2,4 @@ mod Marks
 mod Firsts
 mod Asking
 mod Judging
+pub mod OneAnswer

@@ -1,14 +1,15 @@
--- What follows from form: a packet in form is in range, and exceptions in form lie inside their directives. Assumes nothing.
+-- What follows from form: a packet in form is in range, exceptions in form lie inside their directives, narrowing keeps form.
+-- Assumes nothing.
 use mathlib.Core.Path.{_≡_, refl, _∙_, ap, subst, sym}
 use mathlib.Core.Logic.{_⊎_, inl, inr, ⊎-elim, _↔_}
-use mathlib.Core.Bool.{_&&_}
+use mathlib.Core.Bool.{Bool, true, false, _&&_, cond}
 use mathlib.Core.List.{List, [], _∷_}
 use mathlib.Core.Option.{Option, none, some, Option·map, Option·some-injective, Option·none-ne-some}
-use Prim.Native.Nat.{ℕ, zero, suc, _+_, _-_, _<_, _≤_}
+use Prim.Native.Nat.{ℕ, zero, suc, _+_, _-_, _<_, _≤_, min, max}
 use native.Mathlib.Omega.{arith}
 use lib.Dec.{T, leb, ltb, eqb, le→leb, ltb→lt, lt→ltb, eqb→eq, leb→le}
 use lib.ListN.{getElem?, take, length}
-use Rattle.meaning.specs.Blocks.{Span, Block, holds, Holds, inside, widest}
+use Rattle.meaning.specs.Blocks.{Span, Block, holds, Holds, inside, widest, shared, shares, narrowSpan, narrow}
 use Rattle.meaning.specs.Fields.{Packet, InRange, range-none, range-more}
 use Rattle.meaning.specs.Form.{orElse, RuleSet, tableOf, Exception, PolicySet, naming, directivesFrom, policyOf, blockInForm, rulesInForm, insideOf, exceptionsInForm, policyInForm, packetInForm, refuseRules, refusePolicy, refusePacket, refuseSets, refuseLabel, mostRules, mostDirectives, mostExceptions}
 use Rattle.meaning.specs.Policies.{Directive, excepted, asks}
@@ -16,7 +17,7 @@ use Rattle.meaning.specs.Records.{numbered, someOf, allOf, Every, every-
 use Rattle.meaning.specs.Rules.{Action, accept, deny, opposite, sameAction, Rule}
 use Rattle.meaning.proofs.BlockHolding.{inside-holds}
 use Rattle.meaning.proofs.RecordsEvery.{all-of-iff}
-use Rattle.meaning.proofs.Tests.{tested, passed, failed, both, left, right, second}
+use Rattle.meaning.proofs.Tests.{tested, passed, failed, passes, both, left, right, second}
 
 range-of : (ns : List ℕ) (p : Packet) → T (packetInForm ns p) → InRange ns p
 unfolding packetInForm
@@ -259,3 +260,27 @@ form-shaped [] [] t = refl
 form-shaped [] (s ∷ b) t = absurd t
 form-shaped (n ∷ ns) [] t = absurd t
 form-shaped (n ∷ ns) (s ∷ b) t = ap suc (form-shaped ns b (block-in-form-iff n ns s b .0 t .2))
+
+-- Narrowing keeps a block in form, whatever the bounds: a field's numbers are bounded by its size as before.
+narrow-span-in-form : (n : ℕ) (s bounds : Span) → (s .low ≤ s .high) × (s .high < n) → (narrowSpan s bounds .low ≤ narrowSpan s bounds .high) × (narrowSpan s bounds .high < n)
+unfolding shares narrowSpan
+narrow-span-in-form n s bounds h = by-test (shares s bounds) refl
+  where
+    by-test : (t : Bool) → shares s bounds ≡ t → (cond t (shared s bounds) s .low ≤ cond t (shared s bounds) s .high) × (cond t (shared s bounds) s .high < n)
+    by-test true e =
+        let rises : max (s .low) (bounds .low) ≤ min (s .high) (bounds .high) = leb→le _ _ (passes (shares s bounds) e) in
+        (rises, omega (arith, h .1))
+    by-test false e = h
+
+pub narrow-in-form : (ns : List ℕ) (k : ℕ) (bounds : Span) (b : Block) → T (blockInForm ns b) → T (blockInForm ns (narrow k bounds b))
+unfolding narrow blockInForm
+narrow-in-form [] k bounds [] t = tt
+narrow-in-form [] k bounds (s ∷ b) t = absurd t
+narrow-in-form (n ∷ ns) k bounds [] t = absurd t
+narrow-in-form (n ∷ ns) zero bounds (s ∷ b) t =
+    let w = block-in-form-iff n ns s b .0 t in
+    let v = narrow-span-in-form n s bounds (w .0, w .1) in
+    block-in-form-iff n ns (narrowSpan s bounds) b .1 (v .0, v .1, w .2)
+narrow-in-form (n ∷ ns) (suc k) bounds (s ∷ b) t =
+    let w = block-in-form-iff n ns s b .0 t in
+    block-in-form-iff n ns s (narrow k bounds b) .1 (w .0, w .1, narrow-in-form ns k bounds b (w .2))

@@ -1,7 +1,7 @@
 -- The walk over a policy's exceptions, at exception i, where the one before it named `before`: it is in form beside the
 -- directive that it names, or is not, or names none. Assumes that the array has a record there.
 use mathlib.Core.Bool.{Bool, true, false, _&&_, and-false}
-use mathlib.Core.List.{List, _∷_}
+use mathlib.Core.List.{_∷_}
 use mathlib.Core.Option.{none, some}
 use mathlib.Core.Path.{_≡_, ap, _∙_}
 use Prim.Native.Nat.{ℕ, _+_, _<_}
@@ -12,8 +12,9 @@ use Rattle.meaning.specs.Fields.{fields}
 use Rattle.meaning.specs.Form.{Exception, insideOf, blockInForm, exceptionsInForm}
 use Rattle.meaning.specs.Records.{numbered}
 use Rattle.meaning.specs.Rules.{Rule}
+use Rattle.sets.specs.Empty.{zeroException}
+use Rattle.sets.specs.Vocabulary.{exceptionOf, directivesOf, exceptionsOf}
 use Rattle.sets.specs.declared.Policy.{Policy}
-use Rattle.sets.specs.Standing.{exceptionOf, directivesOf, exceptionsOf, zeroException}
 use Rattle.sets.proofs.Walks.{next}
 
 module _ (s : Policy) (i before : ℕ) (counted : i < s .«exception_count») (there : i < length (s .exceptions)) where

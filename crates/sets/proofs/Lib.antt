@@ -1,3 +1,5 @@
 pub mod Walks
-pub mod Exceptions
-pub mod Orders
+mod Exceptions
+mod Orders
+pub mod OneAnswer
+pub mod EmptySets

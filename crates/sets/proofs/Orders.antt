@@ -1,9 +1,9 @@
 -- Of two refusals the first that refuses is told: the second only if the first has the number 0. Assumes nothing.
-use mathlib.Core.Path.{_≡_, sym, ap, _∙_}
+use mathlib.Core.Path.{_≡_}
 use borrow.Author.Tests.{eq-eqb, ne-eqb}
 use Rattle.meaning.specs.Form as form
+use Rattle.sets.specs.Vocabulary.{refusalOf}
 use Rattle.sets.specs.declared.Refusal.{Refusal}
-use Rattle.sets.specs.Standing.{refusalOf}
 
 module _ (r : Refusal) (first second : form.Refusal) (e : refusalOf r ≡ first) where
   pub first-passed : r .number ≡ 0 → form.orElse first second ≡ second

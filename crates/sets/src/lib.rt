@@ -1,7 +1,7 @@
 // Rules and policies as values that a program can hold, labels and refusals, and whether sets and packets are in form. A set
 // has a record for each place up to its limit and a count; records past the count are not looked at. Every call answers for
 // every value: what is not in form is refused by number 14, exactly when document 01 says so. Each contract says that the
-// answer is what `meaning` defines for what the values stand for (specs/Standing), and so leaves one answer only.
+// answer is what `meaning` defines for what the values stand for (specs/Vocabulary), and so leaves one answer only.
 
 use blocks::Block;
 use blocks::Packet;
@@ -13,11 +13,12 @@ ghost use lib.Dec.{leb};
 ghost use lib.ListN.{take};
 ghost use Rattle.meaning.specs.Blocks.{inside};
 ghost use Rattle.meaning.specs.Fields.{fields};
-ghost use Rattle.meaning.specs.Form.{unrefused, outOfForm, blockInForm, rulesInForm, exceptionsInForm, policyInForm, refuseRules, refusePolicy, refusePacket, refuseSets, refuseLabel};
+ghost use Rattle.meaning.specs.Form.{mostDirectives, mostExceptions, unrefused, outOfForm, blockInForm, rulesInForm, exceptionsInForm, policyInForm, refuseRules, refusePolicy, refusePacket, refuseSets, refuseLabel};
 ghost use Rattle.meaning.specs.Labels.{kind, rule};
 ghost use Rattle.meaning.specs.Records.{allOf};
 ghost use Rattle.blocks.specs.Vocabulary.{blockOf, packetOf};
-ghost use Rattle.sets.specs.Standing.{labelOf, refusalOf, ruleSetOf, policySetOf, directivesOf, exceptionsOf, inForm, emptyRules, emptyPolicy};
+ghost use Rattle.sets.specs.Vocabulary.{labelOf, refusalOf, ruleSetOf, policySetOf, directivesOf, exceptionsOf, inForm};
+ghost use Rattle.sets.specs.Empty.{emptyRules, emptyPolicy};
 
 // The limits of the sets.
 pub const MOST_RULES: usize = 64;
@@ -96,6 +97,7 @@ impl Rules {
         }; MOST_RULES],
     };
 
+    // The constant as a call, so that a contract can say of it what its name says.
     pub fn empty() -> Rules
         ensures { λ r. ⌜ r ≡ emptyRules ⌝ }
     {
@@ -118,6 +120,7 @@ impl Policy {
         }; MOST_EXCEPTIONS],
     };
 
+    // The constant as a call, so that a contract can say of it what its name says.
     pub fn empty() -> Policy
         ensures { λ r. ⌜ r ≡ emptyPolicy ⌝ }
     {
@@ -151,113 +154,6 @@ impl Label {
             Label::Unasked(n) => n,
             Label::UnmetAccept => 0,
             Label::UnmetDeny => 0,
-        }
-    }
-}
-
-fn rules_in_form(rules: Rules) -> bool
-    ensures { λ r. ⌜ r ≡ rulesInForm fields (ruleSetOf rules) ⌝ }
-{
-    if MOST_RULES < rules.count {
-        return false;
-    }
-    let mut i: usize = 0;
-    while i < rules.count {
-        let rule = rules.records[i];
-        if rule.block.in_form() {
-            i += 1;
-        } else {
-            return false;
-        }
-    }
-    true
-}
-
-fn directives_in_form(policy: Policy) -> bool
-    requires { ⌜ policy .«directive_count» ≤ 32 ⌝ }
-    ensures { λ r. ⌜ r ≡ allOf inForm (directivesOf policy) ⌝ }
-{
-    let mut i: usize = 0;
-    while i < policy.directive_count {
-        let directive = policy.directives[i];
-        if directive.block.in_form() {
-            i += 1;
-        } else {
-            return false;
-        }
-    }
-    true
-}
-
-// Whether an exception is in form beside the directive that it names, where the exception before it named `before`.
-fn exception_in_form(exception: Exception, before: u32, directive: Directive) -> bool
-    ensures { λ r. ⌜ r ≡ (leb before (exception .directive) && inside (blockOf (exception .block)) (blockOf (directive .block)) && blockInForm fields (blockOf (exception .block))) ⌝ }
-{
-    if before <= exception.directive {
-        if exception.block.inside(directive.block) {
-            return exception.block.in_form();
-        }
-    }
-    false
-}
-
-fn exceptions_in_form(policy: Policy) -> bool
-    requires { ⌜ (policy .«directive_count» ≤ 32) × (policy .«exception_count» ≤ 64) ⌝ }
-    ensures { λ r. ⌜ r ≡ exceptionsInForm fields (directivesOf policy) 0 (exceptionsOf policy) ⌝ }
-{
-    let mut before: u32 = 0;
-    let mut i: usize = 0;
-    while i < policy.exception_count {
-        let exception = policy.exceptions[i];
-        let named = exception.directive as usize;
-        if named == 0 {
-            return false;
-        }
-        if policy.directive_count < named {
-            return false;
-        }
-        let directive = policy.directives[named - 1];
-        if exception_in_form(exception, before, directive) {
-            before = exception.directive;
-            i += 1;
-        } else {
-            return false;
-        }
-    }
-    true
-}
-
-fn policy_in_form(policy: Policy) -> bool
-    ensures { λ r. ⌜ r ≡ policyInForm fields (policySetOf policy) ⌝ }
-{
-    if MOST_DIRECTIVES < policy.directive_count {
-        return false;
-    }
-    if MOST_EXCEPTIONS < policy.exception_count {
-        return false;
-    }
-    if directives_in_form(policy) {
-        exceptions_in_form(policy)
-    } else {
-        false
-    }
-}
-
-// No refusal if what was looked at is in form, else 14 and what it was.
-fn refuse_unless(in_form: bool, what: u32) -> Refusal
-    ensures { λ r. ⌜ refusalOf r ≡ cond «in_form» unrefused (outOfForm what) ⌝ }
-{
-    if in_form {
-        Refusal {
-            number: 0,
-            line: 0,
-            field: 0,
-        }
-    } else {
-        Refusal {
-            number: 14,
-            line: what,
-            field: 0,
         }
     }
 }
@@ -305,4 +201,116 @@ pub fn refuse_label(rules: Rules, policy: Policy, packet: Packet) -> Refusal
     } else {
         refusal
     }
+}
+
+// No refusal if what was looked at is in form, else 14 and what it was.
+fn refuse_unless(in_form: bool, what: u32) -> Refusal
+    ensures { λ r. ⌜ refusalOf r ≡ cond «in_form» unrefused (outOfForm what) ⌝ }
+{
+    if in_form {
+        Refusal {
+            number: 0,
+            line: 0,
+            field: 0,
+        }
+    } else {
+        Refusal {
+            number: 14,
+            line: what,
+            field: 0,
+        }
+    }
+}
+
+// Whether the count is within its limit and each rule within the count in form.
+fn rules_in_form(rules: Rules) -> bool
+    ensures { λ r. ⌜ r ≡ rulesInForm fields (ruleSetOf rules) ⌝ }
+{
+    if MOST_RULES < rules.count {
+        return false;
+    }
+    let mut i: usize = 0;
+    while i < rules.count {
+        let rule = rules.records[i];
+        if rule.block.in_form() {
+            i += 1;
+        } else {
+            return false;
+        }
+    }
+    true
+}
+
+// Whether both counts are within their limits and all records within them in form.
+fn policy_in_form(policy: Policy) -> bool
+    ensures { λ r. ⌜ r ≡ policyInForm fields (policySetOf policy) ⌝ }
+{
+    if MOST_DIRECTIVES < policy.directive_count {
+        return false;
+    }
+    if MOST_EXCEPTIONS < policy.exception_count {
+        return false;
+    }
+    if directives_in_form(policy) {
+        exceptions_in_form(policy)
+    } else {
+        false
+    }
+}
+
+// Whether each directive within the count is in form.
+fn directives_in_form(policy: Policy) -> bool
+    requires { ⌜ policy .«directive_count» ≤ mostDirectives ⌝ }
+    ensures { λ r. ⌜ r ≡ allOf inForm (directivesOf policy) ⌝ }
+{
+    let mut i: usize = 0;
+    while i < policy.directive_count {
+        let directive = policy.directives[i];
+        if directive.block.in_form() {
+            i += 1;
+        } else {
+            return false;
+        }
+    }
+    true
+}
+
+// Whether each exception within the count is in form: it names a directive, not a lower one than the exception before it,
+// and lies inside.
+fn exceptions_in_form(policy: Policy) -> bool
+    requires { ⌜ (policy .«directive_count» ≤ mostDirectives) × (policy .«exception_count» ≤ mostExceptions) ⌝ }
+    ensures { λ r. ⌜ r ≡ exceptionsInForm fields (directivesOf policy) 0 (exceptionsOf policy) ⌝ }
+{
+    let mut before: u32 = 0;
+    let mut i: usize = 0;
+    while i < policy.exception_count {
+        let exception = policy.exceptions[i];
+        let named = exception.directive as usize;
+        if named == 0 {
+            return false;
+        }
+        if policy.directive_count < named {
+            return false;
+        }
+        let directive = policy.directives[named - 1];
+        if exception_in_form(exception, before, directive) {
+            before = exception.directive;
+            i += 1;
+        } else {
+            return false;
+        }
+    }
+    true
+}
+
+// Whether an exception is in form beside the directive that it names, where the exception before it named `before`.
+fn exception_in_form(exception: Exception, before: u32, directive: Directive) -> bool
+    ensures { λ r. ⌜ r ≡ (leb before (exception .directive) && inside (blockOf (exception .block)) (blockOf (directive .block)) && blockInForm fields (blockOf (exception .block))) ⌝ }
+{
+    if before <= exception.directive {
+        if exception.block.inside(directive.block) {
+            return exception.block.in_form();
+        }
+    }
+    false
 }

@@ -12,10 +12,32 @@ const ROOM: Block = Block([
 ]);
 
 pub fn write(script: &mut Script, random: &mut Random) {
+    blocks_in_form(script, random);
     held_packets(script, random);
     blocks_inside(script, random);
     narrowings(script, random);
     chains(script, random);
+}
+
+fn blocks_in_form(script: &mut Script, random: &mut Random) {
+    script.group("block: the widest, and each bound moved past the other or past the largest");
+    script.request('b', &[&Block::WIDEST.numbers()]);
+    for field in 0..FIELDS {
+        for bounds in [
+            Bounds::new(LARGEST[field], LARGEST[field]),
+            Bounds::new(1, 0),
+            Bounds::new(0, LARGEST[field].saturating_add(1)),
+            Bounds::new(LARGEST[field], u32::MAX),
+        ] {
+            let mut block = Block::WIDEST;
+            block.0[field] = bounds;
+            script.request('b', &[&block.numbers()]);
+        }
+    }
+    script.group("block: drawn blocks");
+    for _ in 0..60 {
+        script.request('b', &[&drawn_block(random).numbers()]);
+    }
 }
 
 fn held_packets(script: &mut Script, random: &mut Random) {

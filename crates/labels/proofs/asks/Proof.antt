@@ -1,26 +1,22 @@
-use Rattle.labels.proofs.Asking.{askedBy, own-excepted, other-asked}
-use Rattle.sets.specs.Standing.{actionOf}
-use Rattle.blocks.specs.Vocabulary.{blockOf, packetOf}
-use Rattle.meaning.specs.Blocks.{holds}
-use mathlib.Core.Path.{_≡_, sym, ap, _∙_}
+-- A directive asks for its own action where its block holds the packet and no exception does, for the other where one does.
+-- Assumes nothing.
 use mathlib.Core.Bool.{Bool}
+use mathlib.Core.Path.{sym, ap, _∙_}
 use borrow.Author.Needs.{needs}
+use Rattle.meaning.specs.Blocks.{holds}
+use Rattle.blocks.specs.Vocabulary.{blockOf, packetOf}
+use Rattle.sets.specs.Vocabulary.{actionOf}
+use Rattle.labels.specs.Answers.{askedBy}
+use Rattle.labels.proofs.Asking.{own-excepted, other-asked}
 use Rattle.labels.proofs.asks.Statement.{statement}
 use Rattle.labels.proofs.asks.Tie as tie
-use Rattle.labels.proofs.asks.Reads as reads
-use Rattle.labels.proofs.asks.Lts as lts
-use Rattle.blocks.proofs.Block.holds.Reads as holds-reads
-use Rattle.labels.proofs.same_action.Reads as same-action-reads
 
--- src/lib.rt:95:8
 same-action-requires : tie.Need-same-action-requires
 same-action-requires c κs = search needs
 
--- src/lib.rt:99:13
 holds-requires : tie.Need-holds-requires
 holds-requires c κs = search needs
 
--- src/lib.rt:91:1
 returns : tie.Need-returns
 returns c =
     let a = actionOf (c .before .before .before .args .action) in
@@ -28,11 +24,9 @@ returns c =
     let held = holds (blockOf (c .before .before .before .args .directive .block)) (packetOf (c .before .before .before .args .packet)) in
     sym (ap (λ (x : Bool). askedBy a own x held) (c .if2 .taken) ∙ own-excepted a own held (sym (c .before .before .same-action .ensures) ∙ c .before .if1 .taken))
 
--- src/lib.rt:91:1
 returns-2 : tie.Need-returns-2
 returns-2 c = simp (c .before .if2 .left, ← c .before .before .before .same-action .ensures, c .before .before .if1 .taken, ← c .holds .ensures)
 
--- src/lib.rt:91:1
 returns-3 : tie.Need-returns-3
 returns-3 c =
     let a = actionOf (c .before .before .args .action) in

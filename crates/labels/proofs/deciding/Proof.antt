@@ -1,22 +1,19 @@
-use Rattle.labels.proofs.Firsts.{firstLeft, first-here, first-later, first-over}
-use Rattle.sets.proofs.Walks.{length-of-map}
-use Rattle.sets.specs.Standing.{ruleOf, ruleSetOf, zeroRule}
-use Rattle.blocks.specs.Vocabulary.{packetOf}
-use Rattle.meaning.specs.Rules as meaning
-use Rattle.meaning.specs.Form.{tableOf}
-use Rattle.meaning.specs.Blocks.{holds}
-use lib.ListN.{length, getD}
-use borrow.Author.Needs.{needs}
+-- The invariant: the deciding rule is the first that holds the packet among those from i on. Assumes nothing.
+use mathlib.Core.Path.{_≡_, refl, sym, _∙_}
 use native.Mathlib.Omega.{arith}
-use Prim.Native.Nat.{_-_, _+_, _≤_, min}
-use mathlib.Core.Path.{_≡_, refl, sym, ap, _∙_}
-use mathlib.Core.Bool.{Bool, true, false}
+use Prim.Native.Nat.{_-_, _≤_, min}
+use borrow.Author.Needs.{needs}
+use lib.ListN.{length}
+use Rattle.meaning.specs.Blocks.{holds}
+use Rattle.meaning.specs.Form.{tableOf}
+use Rattle.meaning.specs.Rules as meaning
+use Rattle.blocks.specs.Vocabulary.{packetOf}
+use Rattle.sets.specs.Empty.{zeroRule}
+use Rattle.sets.specs.Vocabulary.{ruleOf, ruleSetOf}
+use Rattle.sets.proofs.Walks.{length-of-map}
+use Rattle.labels.proofs.Firsts.{firstLeft, first-here, first-later, first-over}
 use Rattle.labels.proofs.deciding.Statement.{statement}
 use Rattle.labels.proofs.deciding.Tie as tie
-use Rattle.labels.proofs.deciding.Reads as reads
-use Rattle.labels.proofs.deciding.Lts as lts
-use Rattle.blocks.proofs.Block.holds.Reads as holds-reads
-use Rattle.labels.proofs.at_most.Reads as at-most-reads
 
 abbrev Inv-loop : tie.InvT-loop
 Inv-loop packet rules count i₀ i =
@@ -28,36 +25,28 @@ Inv-loop packet rules count i₀ i =
 abbrev μ-loop : tie.MeasureT-loop
 μ-loop packet rules count i₀ i = count - i
 
--- src/lib.rt:134:9
 at-most-requires : tie.Need-at-most-requires Inv-loop μ-loop
 at-most-requires c κs = search needs
 
--- src/lib.rt:136:5
 loop-holds : tie.Need-loop-holds Inv-loop μ-loop
 unfolding meaning.deciding
 loop-holds c = (c .at-most .ensures, omega arith, refl)
 
--- src/lib.rt:137:20
 mul-rule : tie.Need-mul-rule Inv-loop μ-loop
 mul-rule c = search needs
 
--- src/lib.rt:137:20
 element-copy-out-rule : tie.Need-element-copy-out-rule Inv-loop μ-loop
 element-copy-out-rule c = search needs
 
--- src/lib.rt:138:9
 add-i : tie.Need-add-i Inv-loop μ-loop
 add-i c = search needs
 
--- src/lib.rt:139:12
 holds-requires : tie.Need-holds-requires Inv-loop μ-loop
 holds-requires c κs = search needs
 
--- src/lib.rt:140:32
 cast-t14 : tie.Need-cast-t14 Inv-loop μ-loop
 cast-t14 c = search needs
 
--- src/lib.rt:140:13
 returns : tie.Need-returns Inv-loop μ-loop
 returns c =
     let rules = c .before .before .before .before .before .before .args .t1 in
@@ -67,11 +56,9 @@ returns c =
     (c .before .before .before .before .loop .inv .2
     ∙ first-here ruleOf (rules .records) (rules .count) (λ (r : meaning.Rule). holds (r .block) (packetOf packet)) (c .before .before .before .before .loop .i) zeroRule (omega arith) (omega arith) (sym (c .before .holds .ensures) ∙ c .if1 .taken))
 
--- src/lib.rt:136:5
 loop-less : tie.Need-loop-less Inv-loop μ-loop
 loop-less c = search needs
 
--- src/lib.rt:136:5
 loop-again : tie.Need-loop-again Inv-loop μ-loop
 loop-again c =
     let rules = c .before .before .before .before .before .before .args .t1 in
@@ -83,7 +70,6 @@ loop-again c =
           ∙ first-later ruleOf (rules .records) (rules .count) (λ (r : meaning.Rule). holds (r .block) (packetOf packet)) (c .before .before .before .before .loop .i) zeroRule (omega arith) (omega arith) (sym (c .before .holds .ensures) ∙ c .if1 .left),
     )
 
--- src/lib.rt:131:1
 returns-2 : tie.Need-returns-2 Inv-loop μ-loop
 returns-2 c =
     let rules = c .before .before .before .args .t1 in

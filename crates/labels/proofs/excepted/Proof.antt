@@ -1,22 +1,19 @@
-use mathlib.Core.Path.{subst, subst⁻¹}
-use Rattle.labels.proofs.Marks.{speaks-within, Marked, marked-start, marked-more, marked-end}
-use Rattle.sets.proofs.Walks.{next, over, length-of-map}
-use Rattle.sets.specs.Standing.{exceptionOf, exceptionsOf, zeroException}
-use Rattle.blocks.specs.Vocabulary.{packetOf}
-use Rattle.meaning.specs.Form.{Exception}
-use lib.ListN.{length, drop, getD, set}
-use borrow.Author.Needs.{needs}
+-- The invariant: the marks, and what the exceptions from i on speak for, are together what all speak for. Assumes nothing.
+use mathlib.Core.Bool.{true}
+use mathlib.Core.List.{List}
+use mathlib.Core.Path.{subst, subst⁻¹, _≡_}
 use native.Mathlib.Omega.{arith}
 use Prim.Native.Nat.{ℕ, _-_, _+_, _≤_, _<_, min}
-use mathlib.Core.Path.{_≡_, sym, ap, _∙_}
-use mathlib.Core.List.{List}
-use mathlib.Core.Bool.{Bool, true, false}
+use borrow.Author.Needs.{needs}
+use lib.ListN.{length, drop, getD, set}
+use Rattle.meaning.specs.Form.{Exception}
+use Rattle.blocks.specs.Vocabulary.{packetOf}
+use Rattle.sets.specs.Empty.{zeroException}
+use Rattle.sets.specs.Vocabulary.{exceptionOf, exceptionsOf}
+use Rattle.sets.proofs.Walks.{next, over, length-of-map}
+use Rattle.labels.proofs.Marks.{speaks-within, Marked, marked-start, marked-more, marked-end}
 use Rattle.labels.proofs.excepted.Statement.{statement}
 use Rattle.labels.proofs.excepted.Tie as tie
-use Rattle.labels.proofs.excepted.Reads as reads
-use Rattle.labels.proofs.excepted.Lts as lts
-use Rattle.labels.proofs.at_most.Reads as at-most-reads
-use Rattle.labels.proofs.speaks_for.Reads as speaks-for-reads
 
 abbrev Inv-loop : tie.InvT-loop
 Inv-loop packet policy count marks₀ i₀ marks i =
@@ -25,41 +22,32 @@ Inv-loop packet policy count marks₀ i₀ marks i =
 abbrev μ-loop : tie.MeasureT-loop
 μ-loop packet policy count marks₀ i₀ marks i = count - i
 
--- src/lib.rt:78:9
 at-most-requires : tie.Need-at-most-requires Inv-loop μ-loop
 at-most-requires c κs = search needs
 
--- src/lib.rt:81:5
 loop-holds : tie.Need-loop-holds Inv-loop μ-loop
 loop-holds c = (c .at-most .ensures, omega arith, marked-start (packetOf (c .before .args .packet)) (exceptionsOf (c .before .args .t1)))
 
--- src/lib.rt:82:25
 mul-exception : tie.Need-mul-exception Inv-loop μ-loop
 mul-exception c = search needs
 
--- src/lib.rt:82:25
 element-copy-out-exception : tie.Need-element-copy-out-exception Inv-loop μ-loop
 element-copy-out-exception c = search needs
 
--- src/lib.rt:83:13
 speaks-for-requires : tie.Need-speaks-for-requires Inv-loop μ-loop
 speaks-for-requires c κs = search needs
 
--- src/lib.rt:84:9
 array-write-marks : tie.Need-array-write-marks Inv-loop μ-loop
 array-write-marks c =
     subst⁻¹ (λ (k : ℕ). k < 33) (c .speaks-for .ensures)
     (speaks-within (packetOf (c .before .before .before .before .before .args .packet)) (exceptionOf (getD (c .before .before .before .before .before .args .t1 .exceptions) (c .before .before .before .loop .i) zeroException)))
 
--- src/lib.rt:85:9
 add-i : tie.Need-add-i Inv-loop μ-loop
 add-i c = search needs
 
--- src/lib.rt:81:5
 loop-less : tie.Need-loop-less Inv-loop μ-loop
 loop-less c = search needs
 
--- src/lib.rt:81:5
 loop-again : tie.Need-loop-again Inv-loop μ-loop
 loop-again c =
     let policy = c .before .before .before .before .before .args .t1 in
@@ -75,7 +63,6 @@ loop-again c =
           (subst (λ (es : List Exception). Marked p (exceptionsOf policy) es (c .before .before .before .loop .marks)) this (c .before .before .before .loop .inv .2))),
     )
 
--- src/lib.rt:75:1
 returns : tie.Need-returns Inv-loop μ-loop
 returns c =
     let policy = c .before .before .before .args .t1 in

@@ -1,41 +1,30 @@
-use Rattle.labels.proofs.Asking.{asked-by-number}
-use Rattle.sets.specs.Standing.{policySetOf}
-use Rattle.blocks.specs.Vocabulary.{packetOf}
-use Rattle.meaning.specs.Rules.{accept, deny}
-use Rattle.meaning.specs.Labels as labels
-use Rattle.meaning.specs.Form.{policyOf}
-use mathlib.Core.Path.{sym, _∙_}
+-- An action is asked just if a directive that asks for it has a number. Assumes nothing.
+use mathlib.Core.Path.{_∙_}
 use borrow.Author.Needs.{needs}
+use Rattle.meaning.specs.Form.{policyOf}
+use Rattle.meaning.specs.Labels as labels
+use Rattle.meaning.specs.Rules.{accept, deny}
+use Rattle.blocks.specs.Vocabulary.{packetOf}
+use Rattle.sets.specs.Vocabulary.{policySetOf}
+use Rattle.labels.proofs.Asking.{asked-by-number}
 use Rattle.labels.proofs.label_of.Statement.{statement}
 use Rattle.labels.proofs.label_of.Tie as tie
-use Rattle.labels.proofs.label_of.Reads as reads
-use Rattle.labels.proofs.label_of.Lts as lts
-use Rattle.labels.proofs.deciding.Reads as deciding-reads
-use Rattle.labels.proofs.excepted.Reads as excepted-reads
-use Rattle.labels.proofs.first_asking.Reads as first-asking-reads
-use Rattle.labels.proofs.judge.Reads as judge-reads
 
--- src/lib.rt:189:9
 excepted-requires : tie.Need-excepted-requires
 excepted-requires c κs = search needs
 
--- src/lib.rt:190:9
 first-asking-requires : tie.Need-first-asking-requires
 first-asking-requires c κs = search needs
 
--- src/lib.rt:191:9
 first-asking-requires-2 : tie.Need-first-asking-requires-2
 first-asking-requires-2 c κs = search needs
 
--- src/lib.rt:192:9
 deciding-requires : tie.Need-deciding-requires
 deciding-requires c κs = search needs
 
--- src/lib.rt:193:5
 judge-requires : tie.Need-judge-requires
 judge-requires c κs = search needs
 
--- src/lib.rt:186:1
 returns : tie.Need-returns
 unfolding labels.label
 returns c =

@@ -1,50 +1,39 @@
-use Rattle.meaning.specs.Rules.{sameAction}
+-- One answer for each pair. Assumes nothing.
 use borrow.Author.Needs.{needs}
+use Rattle.meaning.specs.Rules.{sameAction}
 use Rattle.labels.proofs.same_action.Statement.{statement}
 use Rattle.labels.proofs.same_action.Tie as tie
-use Rattle.labels.proofs.same_action.Reads as reads
-use Rattle.labels.proofs.same_action.Lts as lts
 
--- src/lib.rt:50:27
 enum-told : tie.Need-enum-told
 enum-told c = search needs
 
--- src/lib.rt:51:31
 enum-told-2 : tie.Need-enum-told-2
 enum-told-2 c = search needs
 
--- src/lib.rt:52:29
 enum-told-3 : tie.Need-enum-told-3
 enum-told-3 c = search needs
 
--- src/lib.rt:54:25
 enum-told-4 : tie.Need-enum-told-4
 enum-told-4 c = search needs
 
--- src/lib.rt:55:31
 enum-told-5 : tie.Need-enum-told-5
 enum-told-5 c = search needs
 
--- src/lib.rt:56:29
 enum-told-6 : tie.Need-enum-told-6
 enum-told-6 c = search needs
 
--- src/lib.rt:46:1
 returns : tie.Need-returns
 unfolding sameAction
 returns c = simp (c .before .before .enum-told .given .1, c .enum-told2 .given .1)
 
--- src/lib.rt:46:1
 returns-2 : tie.Need-returns-2
 unfolding sameAction
 returns-2 c = simp (c .before .before .enum-told .given .1, c .enum-told3 .given .1)
 
--- src/lib.rt:46:1
 returns-3 : tie.Need-returns-3
 unfolding sameAction
 returns-3 c = simp (c .before .before .enum-told4 .given .1, c .enum-told5 .given .1)
 
--- src/lib.rt:46:1
 returns-4 : tie.Need-returns-4
 unfolding sameAction
 returns-4 c = simp (c .before .before .enum-told4 .given .1, c .enum-told6 .given .1)

@@ -1,28 +1,21 @@
-use borrow.Author.Tests.{le-leb, lt-leb}
+-- Each test is made in turn, and the first that fails settles it. Assumes nothing.
 use borrow.Author.Needs.{needs}
+use borrow.Author.Tests.{le-leb, lt-leb}
 use Rattle.labels.proofs.speaks_for.Statement.{statement}
 use Rattle.labels.proofs.speaks_for.Tie as tie
-use Rattle.labels.proofs.speaks_for.Reads as reads
-use Rattle.labels.proofs.speaks_for.Lts as lts
-use Rattle.blocks.proofs.Block.holds.Reads as holds-reads
 
--- src/lib.rt:65:17
 cast-named : tie.Need-cast-named
 cast-named c = search needs
 
--- src/lib.rt:66:8
 holds-requires : tie.Need-holds-requires
 holds-requires c κs = search needs
 
--- src/lib.rt:68:13
 returns : tie.Need-returns
 returns c = simp (← c .before .before .holds .ensures, c .before .if1 .taken, le-leb _ _ (c .if2 .taken))
 
--- src/lib.rt:62:1
 returns-2 : tie.Need-returns-2
 returns-2 c = simp (← c .before .before .holds .ensures, c .before .if1 .taken, lt-leb _ _ (c .if2 .left))
 
--- src/lib.rt:62:1
 returns-3 : tie.Need-returns-3
 returns-3 c = simp (← c .before .holds .ensures, c .if1 .left)
 

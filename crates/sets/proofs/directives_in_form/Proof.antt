@@ -1,17 +1,15 @@
-use Rattle.sets.proofs.Walks.{all-next, all-stop, all-over, length-of-map}
-use Rattle.sets.specs.Standing.{directiveOf, directivesOf, inForm, zeroDirective}
-use Rattle.meaning.specs.Records.{allOf}
-use lib.ListN.{length, drop}
-use borrow.Author.Tests.{le-leb, lt-leb}
-use borrow.Author.Needs.{needs}
+-- The invariant: all directives are in form just if those from i on are. Assumes nothing.
+use mathlib.Core.Path.{_≡_, refl, sym, _∙_}
 use native.Mathlib.Omega.{arith}
-use Prim.Native.Nat.{_-_, _+_, _≤_}
-use mathlib.Core.Path.{_≡_, refl, sym, ap, _∙_}
+use Prim.Native.Nat.{_-_, _≤_}
+use borrow.Author.Needs.{needs}
+use lib.ListN.{length, drop}
+use Rattle.meaning.specs.Records.{allOf}
+use Rattle.sets.specs.Empty.{zeroDirective}
+use Rattle.sets.specs.Vocabulary.{directiveOf, directivesOf, inForm}
+use Rattle.sets.proofs.Walks.{all-next, all-stop, all-over, length-of-map}
 use Rattle.sets.proofs.directives_in_form.Statement.{statement}
 use Rattle.sets.proofs.directives_in_form.Tie as tie
-use Rattle.sets.proofs.directives_in_form.Reads as reads
-use Rattle.sets.proofs.directives_in_form.Lts as lts
-use Rattle.blocks.proofs.Block.in_form.Reads as in-form-reads
 
 abbrev Inv-loop : tie.InvT-loop
 Inv-loop policy i₀ i = (i ≤ policy .«directive_count») × (allOf inForm (directivesOf policy) ≡ allOf inForm (drop i (directivesOf policy)))
@@ -19,31 +17,24 @@ Inv-loop policy i₀ i = (i ≤ policy .«directive_count») × (allOf inForm (d
 abbrev μ-loop : tie.MeasureT-loop
 μ-loop policy i₀ i = policy .«directive_count» - i
 
--- src/lib.rt:176:5
 loop-holds : tie.Need-loop-holds Inv-loop μ-loop
 loop-holds c = (search needs, refl)
 
--- src/lib.rt:177:25
 mul-directive : tie.Need-mul-directive Inv-loop μ-loop
 mul-directive c = search needs
 
--- src/lib.rt:177:25
 element-copy-out-directive : tie.Need-element-copy-out-directive Inv-loop μ-loop
 element-copy-out-directive c = search needs
 
--- src/lib.rt:178:12
 in-form-requires : tie.Need-in-form-requires Inv-loop μ-loop
 in-form-requires c κs = search needs
 
--- src/lib.rt:179:13
 add-i : tie.Need-add-i Inv-loop μ-loop
 add-i c = search needs
 
--- src/lib.rt:176:5
 loop-less : tie.Need-loop-less Inv-loop μ-loop
 loop-less c = search needs
 
--- src/lib.rt:176:5
 loop-again : tie.Need-loop-again Inv-loop μ-loop
 loop-again c =
     let policy = c .before .before .before .before .before .args .t1 in
@@ -53,7 +44,6 @@ loop-again c =
           ∙ all-next directiveOf (policy .directives) (policy .«directive_count») inForm (c .before .before .before .before .loop .i) zeroDirective (omega arith) (omega arith) (sym (c .before .in-form .ensures) ∙ c .if1 .taken),
     )
 
--- src/lib.rt:181:13
 returns : tie.Need-returns Inv-loop μ-loop
 returns c =
     let policy = c .before .before .before .before .before .args .t1 in
@@ -62,7 +52,6 @@ returns c =
     (c .before .before .before .before .loop .inv .1
     ∙ all-stop directiveOf (policy .directives) (policy .«directive_count») inForm (c .before .before .before .before .loop .i) zeroDirective (omega arith) (omega arith) (sym (c .before .in-form .ensures) ∙ c .if1 .left))
 
--- src/lib.rt:171:1
 returns-2 : tie.Need-returns-2 Inv-loop μ-loop
 returns-2 c =
     let policy = c .before .before .args .t1 in

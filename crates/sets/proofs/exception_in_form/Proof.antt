@@ -1,29 +1,21 @@
-use borrow.Author.Tests.{le-leb, lt-leb}
+-- Each test is made in turn, and the first that fails settles it. Assumes nothing.
 use borrow.Author.Needs.{needs}
+use borrow.Author.Tests.{le-leb, lt-leb}
 use Rattle.sets.proofs.exception_in_form.Statement.{statement}
 use Rattle.sets.proofs.exception_in_form.Tie as tie
-use Rattle.sets.proofs.exception_in_form.Reads as reads
-use Rattle.sets.proofs.exception_in_form.Lts as lts
-use Rattle.blocks.proofs.Block.in_form.Reads as in-form-reads
-use Rattle.blocks.proofs.Block.inside.Reads as inside-reads
 
--- src/lib.rt:192:12
 inside-requires : tie.Need-inside-requires
 inside-requires c κs = search needs
 
--- src/lib.rt:193:13
 in-form-requires : tie.Need-in-form-requires
 in-form-requires c κs = search needs
 
--- src/lib.rt:193:13
 returns : tie.Need-returns
 returns c = simp (le-leb _ _ (c .before .before .before .if1 .taken), ← c .before .before .inside .ensures, c .before .if2 .taken, ← c .in-form .ensures)
 
--- src/lib.rt:188:1
 returns-2 : tie.Need-returns-2
 returns-2 c = simp (le-leb _ _ (c .before .before .if1 .taken), ← c .before .inside .ensures, c .if2 .left)
 
--- src/lib.rt:188:1
 returns-3 : tie.Need-returns-3
 returns-3 c = simp (lt-leb _ _ (c .if1 .left))
 

@@ -1,38 +1,29 @@
-use Rattle.meaning.specs.Form.{policyInForm}
-use mathlib.Core.Path.{_∙_, sym}
-use borrow.Author.Tests.{le-leb, lt-leb}
+-- Each test is made in turn, and the first that fails settles it. Assumes nothing.
+use mathlib.Core.Path.{_∙_}
 use borrow.Author.Needs.{needs}
+use borrow.Author.Tests.{le-leb, lt-leb}
+use Rattle.meaning.specs.Form.{policyInForm}
 use Rattle.sets.proofs.policy_in_form.Statement.{statement}
 use Rattle.sets.proofs.policy_in_form.Tie as tie
-use Rattle.sets.proofs.policy_in_form.Reads as reads
-use Rattle.sets.proofs.policy_in_form.Lts as lts
-use Rattle.sets.proofs.directives_in_form.Reads as directives-in-form-reads
-use Rattle.sets.proofs.exceptions_in_form.Reads as exceptions-in-form-reads
 
--- src/lib.rt:232:9
 returns : tie.Need-returns
 unfolding policyInForm
 returns c = simp (lt-leb _ _ (c .if1 .taken))
 
--- src/lib.rt:235:9
 returns-2 : tie.Need-returns-2
 unfolding policyInForm
 returns-2 c = simp (le-leb _ _ (c .before .before .if1 .left), lt-leb _ _ (c .if2 .taken))
 
--- src/lib.rt:237:8
 directives-in-form-requires : tie.Need-directives-in-form-requires
 directives-in-form-requires c κs = search needs
 
--- src/lib.rt:238:9
 exceptions-in-form-requires : tie.Need-exceptions-in-form-requires
 exceptions-in-form-requires c κs = search needs
 
--- src/lib.rt:228:1
 returns-3 : tie.Need-returns-3
 unfolding policyInForm
 returns-3 c = c .exceptions-in-form .ensures ∙ simp (le-leb _ _ (c .before .before .before .before .before .if1 .left), le-leb _ _ (c .before .before .before .if2 .left), ← c .before .before .directives-in-form .ensures, c .before .if3 .taken)
 
--- src/lib.rt:228:1
 returns-4 : tie.Need-returns-4
 unfolding policyInForm
 returns-4 c = simp (le-leb _ _ (c .before .before .before .before .if1 .left), le-leb _ _ (c .before .before .if2 .left), ← c .before .directives-in-form .ensures, c .if3 .left)

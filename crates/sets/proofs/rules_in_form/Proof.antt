@@ -1,19 +1,18 @@
-use Rattle.sets.proofs.Walks.{all-next, all-stop, all-over, length-of-map}
-use Rattle.sets.specs.Standing.{ruleOf, ruleSetOf, inForm, zeroRule}
-use Rattle.meaning.specs.Records.{allOf}
-use Rattle.meaning.specs.Form.{rulesInForm, tableOf}
-use Rattle.meaning.specs.Fields.{fields}
-use lib.ListN.{length, drop}
-use borrow.Author.Tests.{le-leb, lt-leb}
-use borrow.Author.Needs.{needs}
+-- The invariant: the set is in form just if its count is within the limit, and all rules from i on are. Assumes nothing.
+use mathlib.Core.Path.{_≡_, sym, _∙_}
 use native.Mathlib.Omega.{arith}
-use Prim.Native.Nat.{_-_, _+_, _≤_}
-use mathlib.Core.Path.{_≡_, refl, sym, ap, _∙_}
+use Prim.Native.Nat.{_-_, _≤_}
+use borrow.Author.Needs.{needs}
+use borrow.Author.Tests.{le-leb, lt-leb}
+use lib.ListN.{length, drop}
+use Rattle.meaning.specs.Fields.{fields}
+use Rattle.meaning.specs.Form.{rulesInForm, tableOf}
+use Rattle.meaning.specs.Records.{allOf}
+use Rattle.sets.specs.Empty.{zeroRule}
+use Rattle.sets.specs.Vocabulary.{ruleOf, ruleSetOf, inForm}
+use Rattle.sets.proofs.Walks.{all-next, all-stop, all-over, length-of-map}
 use Rattle.sets.proofs.rules_in_form.Statement.{statement}
 use Rattle.sets.proofs.rules_in_form.Tie as tie
-use Rattle.sets.proofs.rules_in_form.Reads as reads
-use Rattle.sets.proofs.rules_in_form.Lts as lts
-use Rattle.blocks.proofs.Block.in_form.Reads as in-form-reads
 
 abbrev Inv-loop : tie.InvT-loop
 Inv-loop rules i₀ i = (i ≤ rules .count) × (rulesInForm fields (ruleSetOf rules) ≡ allOf inForm (drop i (tableOf (ruleSetOf rules))))
@@ -21,37 +20,29 @@ Inv-loop rules i₀ i = (i ≤ rules .count) × (rulesInForm fields (ruleSetOf r
 abbrev μ-loop : tie.MeasureT-loop
 μ-loop rules i₀ i = rules .count - i
 
--- src/lib.rt:157:9
 returns : tie.Need-returns Inv-loop μ-loop
 unfolding rulesInForm
 returns c = simp (lt-leb _ _ (c .if1 .taken))
 
--- src/lib.rt:160:5
 loop-holds : tie.Need-loop-holds Inv-loop μ-loop
 unfolding rulesInForm
 loop-holds c = (search needs, simp (le-leb _ _ (c .if1 .left)))
 
--- src/lib.rt:161:20
 mul-rule : tie.Need-mul-rule Inv-loop μ-loop
 mul-rule c = search needs
 
--- src/lib.rt:161:20
 element-copy-out-rule : tie.Need-element-copy-out-rule Inv-loop μ-loop
 element-copy-out-rule c = search needs
 
--- src/lib.rt:162:12
 in-form-requires : tie.Need-in-form-requires Inv-loop μ-loop
 in-form-requires c κs = search needs
 
--- src/lib.rt:163:13
 add-i : tie.Need-add-i Inv-loop μ-loop
 add-i c = search needs
 
--- src/lib.rt:160:5
 loop-less : tie.Need-loop-less Inv-loop μ-loop
 loop-less c = search needs
 
--- src/lib.rt:160:5
 loop-again : tie.Need-loop-again Inv-loop μ-loop
 loop-again c =
     let rules = c .before .before .before .before .before .before .args .t1 in
@@ -61,7 +52,6 @@ loop-again c =
           ∙ all-next ruleOf (rules .records) (rules .count) inForm (c .before .before .before .before .loop .i) zeroRule (omega arith) (omega arith) (sym (c .before .in-form .ensures) ∙ c .if2 .taken),
     )
 
--- src/lib.rt:165:13
 returns-2 : tie.Need-returns-2 Inv-loop μ-loop
 returns-2 c =
     let rules = c .before .before .before .before .before .before .args .t1 in
@@ -70,7 +60,6 @@ returns-2 c =
     (c .before .before .before .before .loop .inv .1
     ∙ all-stop ruleOf (rules .records) (rules .count) inForm (c .before .before .before .before .loop .i) zeroRule (omega arith) (omega arith) (sym (c .before .in-form .ensures) ∙ c .if2 .left))
 
--- src/lib.rt:153:1
 returns-3 : tie.Need-returns-3 Inv-loop μ-loop
 returns-3 c =
     let rules = c .before .before .before .args .t1 in

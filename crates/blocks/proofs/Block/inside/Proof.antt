@@ -1,44 +1,34 @@
-use Rattle.meaning.specs.Blocks.{inside}
+-- Each pair of spans is asked in turn, and the first that is not between settles it. Assumes nothing.
 use mathlib.Core.Bool.{and-true}
 use borrow.Author.Needs.{needs}
+use Rattle.meaning.specs.Blocks.{inside}
 use Rattle.blocks.proofs.Block.inside.Statement.{statement}
 use Rattle.blocks.proofs.Block.inside.Tie as tie
-use Rattle.blocks.proofs.Block.inside.Reads as reads
-use Rattle.blocks.proofs.Block.inside.Lts as lts
-use Rattle.blocks.proofs.Span.between.Reads as between-reads
 
--- src/lib.rt:163:12
 between-requires : tie.Need-between-requires
 between-requires c κs = search needs
 
--- src/lib.rt:164:16
 between-requires-2 : tie.Need-between-requires-2
 between-requires-2 c κs = search needs
 
--- src/lib.rt:165:20
 between-requires-3 : tie.Need-between-requires-3
 between-requires-3 c κs = search needs
 
--- src/lib.rt:166:21
 between-requires-4 : tie.Need-between-requires-4
 between-requires-4 c κs = search needs
 
--- src/lib.rt:166:21
 returns : tie.Need-returns
 unfolding inside
 returns c = simp (← c .before .before .before .before .before .before .between .ensures, ← c .before .before .before .before .between2 .ensures, ← c .before .before .between3 .ensures, ← c .between4 .ensures, c .before .before .before .before .before .if1 .taken, c .before .before .before .if2 .taken, c .before .if3 .taken, and-true)
 
--- src/lib.rt:160:5
 returns-2 : tie.Need-returns-2
 unfolding inside
 returns-2 c = simp (← c .before .before .before .before .before .between .ensures, ← c .before .before .before .between2 .ensures, ← c .before .between3 .ensures, c .before .before .before .before .if1 .taken, c .before .before .if2 .taken, c .if3 .left)
 
--- src/lib.rt:160:5
 returns-3 : tie.Need-returns-3
 unfolding inside
 returns-3 c = simp (← c .before .before .before .between .ensures, ← c .before .between2 .ensures, c .before .before .if1 .taken, c .if2 .left)
 
--- src/lib.rt:160:5
 returns-4 : tie.Need-returns-4
 unfolding inside
 returns-4 c = simp (← c .before .between .ensures, c .if1 .left)

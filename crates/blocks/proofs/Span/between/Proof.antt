@@ -1,14 +1,11 @@
+-- One test for each bound. Assumes nothing.
 use borrow.Author.Tests.{le-leb, lt-leb}
 use Rattle.blocks.proofs.Span.between.Statement.{statement}
 use Rattle.blocks.proofs.Span.between.Tie as tie
-use Rattle.blocks.proofs.Span.between.Reads as reads
-use Rattle.blocks.proofs.Span.between.Lts as lts
 
--- src/lib.rt:73:5
 returns : tie.Need-returns
 returns c = simp (le-leb _ _ (c .before .before .if1 .taken))
 
--- src/lib.rt:73:5
 returns-2 : tie.Need-returns-2
 returns-2 c = simp (lt-leb _ _ (c .if1 .left))
 

@@ -1,16 +1,13 @@
-use Rattle.meaning.specs.Blocks.{within}
+-- One test for each bound. Assumes nothing.
 use borrow.Author.Tests.{le-leb, lt-leb}
+use Rattle.meaning.specs.Blocks.{within}
 use Rattle.blocks.proofs.Span.within.Statement.{statement}
 use Rattle.blocks.proofs.Span.within.Tie as tie
-use Rattle.blocks.proofs.Span.within.Reads as reads
-use Rattle.blocks.proofs.Span.within.Lts as lts
 
--- src/lib.rt:62:5
 returns : tie.Need-returns
 unfolding within
 returns c = simp (le-leb _ _ (c .before .if1 .taken))
 
--- src/lib.rt:62:5
 returns-2 : tie.Need-returns-2
 unfolding within
 returns-2 c = simp (lt-leb _ _ (c .if1 .left))

@@ -1,63 +1,47 @@
-use Rattle.sets.specs.declared.Label.{Label}
-use Rattle.sets.specs.Standing.{labelOf}
-use Rattle.meaning.specs.Labels.{kind}
-use mathlib.Core.Path.{ap}
+-- One number for each case. Assumes nothing.
 use borrow.Author.Needs.{needs}
+use Rattle.meaning.specs.Labels.{kind}
 use Rattle.sets.proofs.Label.kind.Statement.{statement}
 use Rattle.sets.proofs.Label.kind.Tie as tie
-use Rattle.sets.proofs.Label.kind.Reads as reads
-use Rattle.sets.proofs.Label.kind.Lts as lts
 
--- src/lib.rt:132:28
 enum-told : tie.Need-enum-told
 enum-told c = search needs
 
--- src/lib.rt:133:32
 enum-told-2 : tie.Need-enum-told-2
 enum-told-2 c = search needs
 
--- src/lib.rt:134:32
 enum-told-3 : tie.Need-enum-told-3
 enum-told-3 c = search needs
 
--- src/lib.rt:135:34
 enum-told-4 : tie.Need-enum-told-4
 enum-told-4 c = search needs
 
--- src/lib.rt:136:35
 enum-told-5 : tie.Need-enum-told-5
 enum-told-5 c = search needs
 
--- src/lib.rt:137:33
 enum-told-6 : tie.Need-enum-told-6
 enum-told-6 c = search needs
 
--- src/lib.rt:128:5
 returns : tie.Need-returns
 unfolding kind
 returns c = simp (c .enum-told .given .1)
 
--- src/lib.rt:128:5
 returns-2 : tie.Need-returns-2
 unfolding kind
 returns-2 c = simp (c .enum-told2 .given .1)
 
--- src/lib.rt:128:5
 returns-3 : tie.Need-returns-3
 unfolding kind
 returns-3 c = simp (c .enum-told3 .given .1)
 
--- src/lib.rt:128:5
 returns-4 : tie.Need-returns-4
 unfolding kind
 returns-4 c = simp (c .enum-told4 .given .1)
 
--- src/lib.rt:128:5
 returns-5 : tie.Need-returns-5
 unfolding kind
 returns-5 c = simp (c .enum-told5 .given .1)
 
--- src/lib.rt:128:5
 returns-6 : tie.Need-returns-6
 unfolding kind
 returns-6 c = simp (c .enum-told6 .given .1)
