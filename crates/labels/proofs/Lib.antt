@@ -3,3 +3,4 @@ mod Firsts
 mod Asking
 mod Judging
 pub mod OneAnswer
+pub mod Told

@@ -59,12 +59,13 @@ pub fn deciding(rules: Rules, packet: Packet) -> Decided
     ensures { λ r. ⌜ decidedOf r ≡ deciding (tableOf (ruleSetOf rules)) (packetOf packet) ⌝ }
 {
     let count = at_most(rules.count, sets::MOST_RULES);
-    let mut i: usize = 0;
-    while i < count {
-        let rule = rules.records[i];
-        i += 1;
+    let mut passed: usize = 0;
+    while passed < count {
+        let rule = rules.records[passed];
+        passed += 1;
         if rule.block.holds(packet) {
-            return Decided::By(i as u32, rule);
+            let number = passed as u32;
+            return Decided::By(number, rule);
         }
     }
     Decided::Nothing

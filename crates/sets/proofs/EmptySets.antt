@@ -14,9 +14,9 @@ pub empty-directives : policyOf (policySetOf emptyPolicy) .directives ≡ []
 unfolding policyOf directivesFrom
 empty-directives = refl
 
-pub empty-in-form : refuseSets fields (ruleSetOf emptyRules) (policySetOf emptyPolicy) ≡ unrefused
+pub empty-sets-in-form : refuseSets fields (ruleSetOf emptyRules) (policySetOf emptyPolicy) ≡ unrefused
 unfolding refuseSets refuseRules refusePolicy orElse rulesInForm policyInForm exceptionsInForm allOf
-empty-in-form = refl
+empty-sets-in-form = refl
 
 pub empty-rules-zero : RulesZeroPast emptyRules
 empty-rules-zero = refl

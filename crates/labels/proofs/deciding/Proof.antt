@@ -1,4 +1,4 @@
--- The invariant: the deciding rule is the first that holds the packet among those from i on. Assumes nothing.
+-- The invariant: the deciding rule is the first that holds the packet among those not passed over. Assumes nothing.
 use mathlib.Core.Path.{_≡_, refl, sym, _∙_}
 use native.Mathlib.Omega.{arith}
 use Prim.Native.Nat.{_-_, _≤_, min}
@@ -16,14 +16,14 @@ use Rattle.labels.proofs.deciding.Statement.{statement}
 use Rattle.labels.proofs.deciding.Tie as tie
 
 abbrev Inv-loop : tie.InvT-loop
-Inv-loop packet rules count i₀ i =
+Inv-loop packet rules count passed₀ passed =
     (count ≡ min (rules .count) 64)
-    × (i ≤ count)
+    × (passed ≤ count)
     × (meaning.deciding (tableOf (ruleSetOf rules)) (packetOf packet)
-    ≡ firstLeft ruleOf (rules .records) (rules .count) (λ (r : meaning.Rule). holds (r .block) (packetOf packet)) i)
+    ≡ firstLeft ruleOf (rules .records) (rules .count) (λ (r : meaning.Rule). holds (r .block) (packetOf packet)) passed)
 
 abbrev μ-loop : tie.MeasureT-loop
-μ-loop packet rules count i₀ i = count - i
+μ-loop packet rules count passed₀ passed = count - passed
 
 at-most-requires : tie.Need-at-most-requires Inv-loop μ-loop
 at-most-requires c κs = search needs
@@ -38,14 +38,14 @@ mul-rule c = search needs
 element-copy-out-rule : tie.Need-element-copy-out-rule Inv-loop μ-loop
 element-copy-out-rule c = search needs
 
-add-i : tie.Need-add-i Inv-loop μ-loop
-add-i c = search needs
+add-passed : tie.Need-add-passed Inv-loop μ-loop
+add-passed c = search needs
 
 holds-requires : tie.Need-holds-requires Inv-loop μ-loop
 holds-requires c κs = search needs
 
-cast-t14 : tie.Need-cast-t14 Inv-loop μ-loop
-cast-t14 c = search needs
+cast-number : tie.Need-cast-number Inv-loop μ-loop
+cast-number c = search needs
 
 returns : tie.Need-returns Inv-loop μ-loop
 returns c =
@@ -54,7 +54,7 @@ returns c =
     let full : length (rules .records) ≡ 64 = search (needs, length-of-map) in
     sym
     (c .before .before .before .before .loop .inv .2
-    ∙ first-here ruleOf (rules .records) (rules .count) (λ (r : meaning.Rule). holds (r .block) (packetOf packet)) (c .before .before .before .before .loop .i) zeroRule (omega arith) (omega arith) (sym (c .before .holds .ensures) ∙ c .if1 .taken))
+    ∙ first-here ruleOf (rules .records) (rules .count) (λ (r : meaning.Rule). holds (r .block) (packetOf packet)) (c .before .before .before .before .loop .passed) zeroRule (omega arith) (omega arith) (sym (c .before .holds .ensures) ∙ c .if1 .taken))
 
 loop-less : tie.Need-loop-less Inv-loop μ-loop
 loop-less c = search needs
@@ -67,7 +67,7 @@ loop-again c =
       c .before .before .before .before .loop .inv .0,
       omega arith,
       c .before .before .before .before .loop .inv .2
-          ∙ first-later ruleOf (rules .records) (rules .count) (λ (r : meaning.Rule). holds (r .block) (packetOf packet)) (c .before .before .before .before .loop .i) zeroRule (omega arith) (omega arith) (sym (c .before .holds .ensures) ∙ c .if1 .left),
+          ∙ first-later ruleOf (rules .records) (rules .count) (λ (r : meaning.Rule). holds (r .block) (packetOf packet)) (c .before .before .before .before .loop .passed) zeroRule (omega arith) (omega arith) (sym (c .before .holds .ensures) ∙ c .if1 .left),
     )
 
 returns-2 : tie.Need-returns-2 Inv-loop μ-loop
@@ -77,7 +77,7 @@ returns-2 c =
     let full : length (rules .records) ≡ 64 = search (needs, length-of-map) in
     sym
     (c .before .loop .inv .2
-    ∙ first-over ruleOf (rules .records) (rules .count) (λ (r : meaning.Rule). holds (r .block) (packetOf packet)) (c .before .loop .i) (omega arith))
+    ∙ first-over ruleOf (rules .records) (rules .count) (λ (r : meaning.Rule). holds (r .block) (packetOf packet)) (c .before .loop .passed) (omega arith))
 
 pub deciding-spec : {M : Type 1} → statement M
 deciding-spec =
@@ -89,9 +89,9 @@ deciding-spec =
     loop-holds
     mul-rule
     element-copy-out-rule
-    add-i
+    add-passed
     holds-requires
-    cast-t14
+    cast-number
     returns
     loop-less
     loop-again

@@ -1,7 +1,7 @@
 -- The invariant: all directives are in form just if those from i on are. Assumes nothing.
 use mathlib.Core.Path.{_≡_, refl, sym, _∙_}
 use native.Mathlib.Omega.{arith}
-use Prim.Native.Nat.{_-_, _≤_}
+use Prim.Native.Nat.{_-_}
 use borrow.Author.Needs.{needs}
 use lib.ListN.{length, drop}
 use Rattle.meaning.specs.Records.{allOf}
@@ -12,13 +12,13 @@ use Rattle.sets.proofs.directives_in_form.Statement.{statement}
 use Rattle.sets.proofs.directives_in_form.Tie as tie
 
 abbrev Inv-loop : tie.InvT-loop
-Inv-loop policy i₀ i = (i ≤ policy .«directive_count») × (allOf inForm (directivesOf policy) ≡ allOf inForm (drop i (directivesOf policy)))
+Inv-loop policy i₀ i = allOf inForm (directivesOf policy) ≡ allOf inForm (drop i (directivesOf policy))
 
 abbrev μ-loop : tie.MeasureT-loop
-μ-loop policy i₀ i = policy .«directive_count» - i
+μ-loop policy i₀ i = 32 - i
 
 loop-holds : tie.Need-loop-holds Inv-loop μ-loop
-loop-holds c = (search needs, refl)
+loop-holds c = refl
 
 mul-directive : tie.Need-mul-directive Inv-loop μ-loop
 mul-directive c = search needs
@@ -38,25 +38,23 @@ loop-less c = search needs
 loop-again : tie.Need-loop-again Inv-loop μ-loop
 loop-again c =
     let policy = c .before .before .before .before .before .args .t1 in
-    let full : length (policy .directives) ≡ 32 = search (needs, length-of-map) in (
-      search needs,
-      c .before .before .before .before .loop .inv .1
-          ∙ all-next directiveOf (policy .directives) (policy .«directive_count») inForm (c .before .before .before .before .loop .i) zeroDirective (omega arith) (omega arith) (sym (c .before .in-form .ensures) ∙ c .if1 .taken),
-    )
+    let full : length (policy .directives) ≡ 32 = search (needs, length-of-map) in
+    c .before .before .before .before .loop .inv
+    ∙ all-next directiveOf (policy .directives) (policy .«directive_count») inForm (c .before .before .before .before .loop .i) zeroDirective (omega arith) (omega arith) (sym (c .before .in-form .ensures) ∙ c .if1 .taken)
 
 returns : tie.Need-returns Inv-loop μ-loop
 returns c =
     let policy = c .before .before .before .before .before .args .t1 in
     let full : length (policy .directives) ≡ 32 = search (needs, length-of-map) in
     sym
-    (c .before .before .before .before .loop .inv .1
+    (c .before .before .before .before .loop .inv
     ∙ all-stop directiveOf (policy .directives) (policy .«directive_count») inForm (c .before .before .before .before .loop .i) zeroDirective (omega arith) (omega arith) (sym (c .before .in-form .ensures) ∙ c .if1 .left))
 
 returns-2 : tie.Need-returns-2 Inv-loop μ-loop
 returns-2 c =
     let policy = c .before .before .args .t1 in
     let full : length (policy .directives) ≡ 32 = search (needs, length-of-map) in
-    sym (c .before .loop .inv .1 ∙ all-over directiveOf (policy .directives) (policy .«directive_count») inForm (c .before .loop .i) (omega arith))
+    sym (c .before .loop .inv ∙ all-over directiveOf (policy .directives) (policy .«directive_count») inForm (c .before .loop .i) (omega arith))
 
 pub directives-in-form-spec : {M : Type 1} → statement M
 directives-in-form-spec =

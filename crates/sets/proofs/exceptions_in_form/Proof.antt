@@ -1,7 +1,7 @@
 -- The invariant: all exceptions are in form just if those from i on are, after one that named `before`. Assumes nothing.
 use mathlib.Core.Path.{_≡_, refl, sym, ap, _∙_}
 use native.Mathlib.Omega.{arith}
-use Prim.Native.Nat.{_-_, _≤_}
+use Prim.Native.Nat.{_-_}
 use borrow.Author.Needs.{needs}
 use lib.ListN.{length, drop, getD}
 use Rattle.meaning.specs.Fields.{fields}
@@ -16,14 +16,13 @@ use Rattle.sets.proofs.exceptions_in_form.Tie as tie
 
 abbrev Inv-loop : tie.InvT-loop
 Inv-loop policy before₀ i₀ before i =
-    (i ≤ policy .«exception_count»)
-    × (exceptionsInForm fields (directivesOf policy) 0 (exceptionsOf policy) ≡ exceptionsInForm fields (directivesOf policy) before (drop i (exceptionsOf policy)))
+    exceptionsInForm fields (directivesOf policy) 0 (exceptionsOf policy) ≡ exceptionsInForm fields (directivesOf policy) before (drop i (exceptionsOf policy))
 
 abbrev μ-loop : tie.MeasureT-loop
-μ-loop policy before₀ i₀ before i = policy .«exception_count» - i
+μ-loop policy before₀ i₀ before i = 64 - i
 
 loop-holds : tie.Need-loop-holds Inv-loop μ-loop
-loop-holds c = (search needs, refl)
+loop-holds c = refl
 
 mul-exception : tie.Need-mul-exception Inv-loop μ-loop
 mul-exception c = search needs
@@ -39,14 +38,14 @@ unfolding numbered
 returns c =
     let policy = c .before .before .before .before .before .args .t1 in
     let full : length (policy .exceptions) ≡ 64 = search (needs, length-of-map) in
-    sym (c .before .before .before .before .loop .inv .1 ∙ naming-none policy (c .before .before .before .before .loop .i) (c .before .before .before .before .loop .before) (omega arith) (omega arith) (ap (numbered (directivesOf policy)) (c .if1 .taken)))
+    sym (c .before .before .before .before .loop .inv ∙ naming-none policy (c .before .before .before .before .loop .i) (c .before .before .before .before .loop .before) (omega arith) (omega arith) (ap (numbered (directivesOf policy)) (c .if1 .taken)))
 
 returns-2 : tie.Need-returns-2 Inv-loop μ-loop
 returns-2 c =
     let policy = c .before .before .before .before .before .before .args .t1 in
     let full : length (policy .exceptions) ≡ 64 = search (needs, length-of-map) in
     sym
-    (c .before .before .before .before .before .loop .inv .1
+    (c .before .before .before .before .before .loop .inv
     ∙ naming-none policy (c .before .before .before .before .before .loop .i) (c .before .before .before .before .before .loop .before) (omega arith) (omega arith)
     (past-number directiveOf (policy .directives) (policy .«directive_count») (getD (policy .exceptions) (c .before .before .before .before .before .loop .i) zeroException .directive) (omega arith)))
 
@@ -74,10 +73,8 @@ loop-again c =
     let exception = getD (policy .exceptions) (c .before .before .before .before .before .before .before .before .loop .i) zeroException in
     let full : length (policy .exceptions) ≡ 64 = search (needs, length-of-map) in
     let all : length (policy .directives) ≡ 32 = search (needs, length-of-map) in
-    let named = at-number directiveOf (policy .directives) (policy .«directive_count») (exception .directive) zeroDirective (omega arith) (omega arith) (omega arith) in (
-      search needs,
-      c .before .before .before .before .before .before .before .before .loop .inv .1 ∙ in-form-beside policy (c .before .before .before .before .before .before .before .before .loop .i) (c .before .before .before .before .before .before .before .before .loop .before) (omega arith) (omega arith) _ named (sym (c .before .exception-in-form .ensures) ∙ c .if3 .taken),
-    )
+    let named = at-number directiveOf (policy .directives) (policy .«directive_count») (exception .directive) zeroDirective (omega arith) (omega arith) (omega arith) in
+    c .before .before .before .before .before .before .before .before .loop .inv ∙ in-form-beside policy (c .before .before .before .before .before .before .before .before .loop .i) (c .before .before .before .before .before .before .before .before .loop .before) (omega arith) (omega arith) _ named (sym (c .before .exception-in-form .ensures) ∙ c .if3 .taken)
 
 returns-3 : tie.Need-returns-3 Inv-loop μ-loop
 returns-3 c =
@@ -86,7 +83,7 @@ returns-3 c =
     let full : length (policy .exceptions) ≡ 64 = search (needs, length-of-map) in
     let all : length (policy .directives) ≡ 32 = search (needs, length-of-map) in
     let named = at-number directiveOf (policy .directives) (policy .«directive_count») (exception .directive) zeroDirective (omega arith) (omega arith) (omega arith) in
-    sym (c .before .before .before .before .before .before .before .before .loop .inv .1 ∙ out-of-form-beside policy (c .before .before .before .before .before .before .before .before .loop .i) (c .before .before .before .before .before .before .before .before .loop .before) (omega arith) (omega arith) _ named (sym (c .before .exception-in-form .ensures) ∙ c .if3 .left))
+    sym (c .before .before .before .before .before .before .before .before .loop .inv ∙ out-of-form-beside policy (c .before .before .before .before .before .before .before .before .loop .i) (c .before .before .before .before .before .before .before .before .loop .before) (omega arith) (omega arith) _ named (sym (c .before .exception-in-form .ensures) ∙ c .if3 .left))
 
 returns-4 : tie.Need-returns-4 Inv-loop μ-loop
 unfolding exceptionsInForm
@@ -94,7 +91,7 @@ returns-4 c =
     let policy = c .before .before .args .t1 in
     let full : length (policy .exceptions) ≡ 64 = search (needs, length-of-map) in
     sym
-    (c .before .loop .inv .1
+    (c .before .loop .inv
     ∙ ap (exceptionsInForm fields (directivesOf policy) (c .before .loop .before)) (over exceptionOf (policy .exceptions) (policy .«exception_count») (c .before .loop .i) (omega arith)))
 
 pub exceptions-in-form-spec : {M : Type 1} → statement M

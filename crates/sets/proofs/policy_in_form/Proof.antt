@@ -1,5 +1,6 @@
 -- Each test is made in turn, and the first that fails settles it. Assumes nothing.
 use mathlib.Core.Path.{_∙_}
+use native.Mathlib.Omega.{arith}
 use borrow.Author.Needs.{needs}
 use borrow.Author.Tests.{le-leb, lt-leb}
 use Rattle.meaning.specs.Form.{policyInForm}
@@ -8,11 +9,13 @@ use Rattle.sets.proofs.policy_in_form.Tie as tie
 
 returns : tie.Need-returns
 unfolding policyInForm
-returns c = simp (lt-leb _ _ (c .if1 .taken))
+returns c = simp (lt-leb (c .before .before .args .policy .«directive_count») 32 (omega arith))
 
 returns-2 : tie.Need-returns-2
 unfolding policyInForm
-returns-2 c = simp (le-leb _ _ (c .before .before .if1 .left), lt-leb _ _ (c .if2 .taken))
+returns-2 c =
+    let policy = c .before .before .before .before .args .policy in
+    simp (le-leb (policy .«directive_count») 32 (omega arith), lt-leb (policy .«exception_count») 64 (omega arith))
 
 directives-in-form-requires : tie.Need-directives-in-form-requires
 directives-in-form-requires c κs = search needs
@@ -22,11 +25,16 @@ exceptions-in-form-requires c κs = search needs
 
 returns-3 : tie.Need-returns-3
 unfolding policyInForm
-returns-3 c = c .exceptions-in-form .ensures ∙ simp (le-leb _ _ (c .before .before .before .before .before .if1 .left), le-leb _ _ (c .before .before .before .if2 .left), ← c .before .before .directives-in-form .ensures, c .before .if3 .taken)
+returns-3 c =
+    let policy = c .before .before .before .before .before .before .before .args .policy in
+    c .exceptions-in-form .ensures
+    ∙ simp (le-leb (policy .«directive_count») 32 (omega arith), le-leb (policy .«exception_count») 64 (omega arith), ← c .before .before .directives-in-form .ensures, c .before .if3 .taken)
 
 returns-4 : tie.Need-returns-4
 unfolding policyInForm
-returns-4 c = simp (le-leb _ _ (c .before .before .before .before .if1 .left), le-leb _ _ (c .before .before .if2 .left), ← c .before .directives-in-form .ensures, c .if3 .left)
+returns-4 c =
+    let policy = c .before .before .before .before .before .before .args .policy in
+    simp (le-leb (policy .«directive_count») 32 (omega arith), le-leb (policy .«exception_count») 64 (omega arith), ← c .before .directives-in-form .ensures, c .if3 .left)
 
 pub policy-in-form-spec : {M : Type 1} → statement M
 policy-in-form-spec =

@@ -1,7 +1,7 @@
 -- The invariant: the set is in form just if its count is within the limit, and all rules from i on are. Assumes nothing.
 use mathlib.Core.Path.{_≡_, sym, _∙_}
 use native.Mathlib.Omega.{arith}
-use Prim.Native.Nat.{_-_, _≤_}
+use Prim.Native.Nat.{_-_}
 use borrow.Author.Needs.{needs}
 use borrow.Author.Tests.{le-leb, lt-leb}
 use lib.ListN.{length, drop}
@@ -15,18 +15,18 @@ use Rattle.sets.proofs.rules_in_form.Statement.{statement}
 use Rattle.sets.proofs.rules_in_form.Tie as tie
 
 abbrev Inv-loop : tie.InvT-loop
-Inv-loop rules i₀ i = (i ≤ rules .count) × (rulesInForm fields (ruleSetOf rules) ≡ allOf inForm (drop i (tableOf (ruleSetOf rules))))
+Inv-loop rules i₀ i = rulesInForm fields (ruleSetOf rules) ≡ allOf inForm (drop i (tableOf (ruleSetOf rules)))
 
 abbrev μ-loop : tie.MeasureT-loop
-μ-loop rules i₀ i = rules .count - i
+μ-loop rules i₀ i = 64 - i
 
 returns : tie.Need-returns Inv-loop μ-loop
 unfolding rulesInForm
-returns c = simp (lt-leb _ _ (c .if1 .taken))
+returns c = simp (lt-leb (c .before .args .t1 .count) 64 (omega arith))
 
 loop-holds : tie.Need-loop-holds Inv-loop μ-loop
 unfolding rulesInForm
-loop-holds c = (search needs, simp (le-leb _ _ (c .if1 .left)))
+loop-holds c = simp (le-leb (c .before .args .t1 .count) 64 (omega arith))
 
 mul-rule : tie.Need-mul-rule Inv-loop μ-loop
 mul-rule c = search needs
@@ -46,25 +46,23 @@ loop-less c = search needs
 loop-again : tie.Need-loop-again Inv-loop μ-loop
 loop-again c =
     let rules = c .before .before .before .before .before .before .args .t1 in
-    let full : length (rules .records) ≡ 64 = search (needs, length-of-map) in (
-      search needs,
-      c .before .before .before .before .loop .inv .1
-          ∙ all-next ruleOf (rules .records) (rules .count) inForm (c .before .before .before .before .loop .i) zeroRule (omega arith) (omega arith) (sym (c .before .in-form .ensures) ∙ c .if2 .taken),
-    )
+    let full : length (rules .records) ≡ 64 = search (needs, length-of-map) in
+    c .before .before .before .before .loop .inv
+    ∙ all-next ruleOf (rules .records) (rules .count) inForm (c .before .before .before .before .loop .i) zeroRule (omega arith) (omega arith) (sym (c .before .in-form .ensures) ∙ c .if2 .taken)
 
 returns-2 : tie.Need-returns-2 Inv-loop μ-loop
 returns-2 c =
     let rules = c .before .before .before .before .before .before .args .t1 in
     let full : length (rules .records) ≡ 64 = search (needs, length-of-map) in
     sym
-    (c .before .before .before .before .loop .inv .1
+    (c .before .before .before .before .loop .inv
     ∙ all-stop ruleOf (rules .records) (rules .count) inForm (c .before .before .before .before .loop .i) zeroRule (omega arith) (omega arith) (sym (c .before .in-form .ensures) ∙ c .if2 .left))
 
 returns-3 : tie.Need-returns-3 Inv-loop μ-loop
 returns-3 c =
     let rules = c .before .before .before .args .t1 in
     let full : length (rules .records) ≡ 64 = search (needs, length-of-map) in
-    sym (c .before .loop .inv .1 ∙ all-over ruleOf (rules .records) (rules .count) inForm (c .before .loop .i) (omega arith))
+    sym (c .before .loop .inv ∙ all-over ruleOf (rules .records) (rules .count) inForm (c .before .loop .i) (omega arith))
 
 pub rules-in-form-spec : {M : Type 1} → statement M
 rules-in-form-spec =
