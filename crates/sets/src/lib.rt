@@ -10,7 +10,6 @@ ghost use mathlib.Core.Bool.{cond, _&&_};
 ghost use mathlib.Core.Path.{_≡_};
 ghost use Prim.Native.Nat.{_≤_};
 ghost use lib.Dec.{leb};
-ghost use lib.ListN.{take};
 ghost use Rattle.meaning.specs.Blocks.{inside};
 ghost use Rattle.meaning.specs.Fields.{fields};
 ghost use Rattle.meaning.specs.Form.{mostDirectives, mostExceptions, unrefused, outOfForm, blockInForm, rulesInForm, exceptionsInForm, policyInForm, refuseRules, refusePolicy, refusePacket, refuseSets, refuseLabel};

@@ -18,7 +18,6 @@ use Rattle.labels.proofs.deciding.Tie as tie
 abbrev Inv-loop : tie.InvT-loop
 Inv-loop packet rules count passed₀ passed =
     (count ≡ min (rules .count) 64)
-    × (passed ≤ count)
     × (meaning.deciding (tableOf (ruleSetOf rules)) (packetOf packet)
     ≡ firstLeft ruleOf (rules .records) (rules .count) (λ (r : meaning.Rule). holds (r .block) (packetOf packet)) passed)
 
@@ -30,7 +29,7 @@ at-most-requires c κs = search needs
 
 loop-holds : tie.Need-loop-holds Inv-loop μ-loop
 unfolding meaning.deciding
-loop-holds c = (c .at-most .ensures, omega arith, refl)
+loop-holds c = (c .at-most .ensures, refl)
 
 mul-rule : tie.Need-mul-rule Inv-loop μ-loop
 mul-rule c = search needs
@@ -53,7 +52,7 @@ returns c =
     let packet = c .before .before .before .before .before .before .args .packet in
     let full : length (rules .records) ≡ 64 = search (needs, length-of-map) in
     sym
-    (c .before .before .before .before .loop .inv .2
+    (c .before .before .before .before .loop .inv .1
     ∙ first-here ruleOf (rules .records) (rules .count) (λ (r : meaning.Rule). holds (r .block) (packetOf packet)) (c .before .before .before .before .loop .passed) zeroRule (omega arith) (omega arith) (sym (c .before .holds .ensures) ∙ c .if1 .taken))
 
 loop-less : tie.Need-loop-less Inv-loop μ-loop
@@ -65,8 +64,7 @@ loop-again c =
     let packet = c .before .before .before .before .before .before .args .packet in
     let full : length (rules .records) ≡ 64 = search (needs, length-of-map) in (
       c .before .before .before .before .loop .inv .0,
-      omega arith,
-      c .before .before .before .before .loop .inv .2
+      c .before .before .before .before .loop .inv .1
           ∙ first-later ruleOf (rules .records) (rules .count) (λ (r : meaning.Rule). holds (r .block) (packetOf packet)) (c .before .before .before .before .loop .passed) zeroRule (omega arith) (omega arith) (sym (c .before .holds .ensures) ∙ c .if1 .left),
     )
 
@@ -76,7 +74,7 @@ returns-2 c =
     let packet = c .before .before .before .args .packet in
     let full : length (rules .records) ≡ 64 = search (needs, length-of-map) in
     sym
-    (c .before .loop .inv .2
+    (c .before .loop .inv .1
     ∙ first-over ruleOf (rules .records) (rules .count) (λ (r : meaning.Rule). holds (r .block) (packetOf packet)) (c .before .loop .passed) (omega arith))
 
 pub deciding-spec : {M : Type 1} → statement M
