@@ -1,7 +1,7 @@
 -- The invariant: the deciding rule is the first that holds the packet among those not passed over. Assumes nothing.
 use mathlib.Core.Path.{_≡_, refl, sym, _∙_}
 use native.Mathlib.Omega.{arith}
-use Prim.Native.Nat.{_-_, _≤_, min}
+use Prim.Native.Nat.{_-_}
 use borrow.Author.Needs.{needs}
 use lib.ListN.{length}
 use Rattle.meaning.specs.Blocks.{holds}
@@ -17,8 +17,7 @@ use Rattle.labels.proofs.deciding.Tie as tie
 
 abbrev Inv-loop : tie.InvT-loop
 Inv-loop packet rules count passed₀ passed =
-    (count ≡ min (rules .count) 64)
-    × (meaning.deciding (tableOf (ruleSetOf rules)) (packetOf packet)
+    (meaning.deciding (tableOf (ruleSetOf rules)) (packetOf packet)
     ≡ firstLeft ruleOf (rules .records) (rules .count) (λ (r : meaning.Rule). holds (r .block) (packetOf packet)) passed)
 
 abbrev μ-loop : tie.MeasureT-loop
@@ -29,7 +28,7 @@ at-most-requires c κs = search needs
 
 loop-holds : tie.Need-loop-holds Inv-loop μ-loop
 unfolding meaning.deciding
-loop-holds c = (c .at-most .ensures, refl)
+loop-holds c = refl
 
 mul-rule : tie.Need-mul-rule Inv-loop μ-loop
 mul-rule c = search needs
@@ -52,7 +51,7 @@ returns c =
     let packet = c .before .before .before .before .before .before .args .packet in
     let full : length (rules .records) ≡ 64 = search (needs, length-of-map) in
     sym
-    (c .before .before .before .before .loop .inv .1
+    (c .before .before .before .before .loop .inv
     ∙ first-here ruleOf (rules .records) (rules .count) (λ (r : meaning.Rule). holds (r .block) (packetOf packet)) (c .before .before .before .before .loop .passed) zeroRule (omega arith) (omega arith) (sym (c .before .holds .ensures) ∙ c .if1 .taken))
 
 loop-less : tie.Need-loop-less Inv-loop μ-loop
@@ -62,11 +61,9 @@ loop-again : tie.Need-loop-again Inv-loop μ-loop
 loop-again c =
     let rules = c .before .before .before .before .before .before .args .t1 in
     let packet = c .before .before .before .before .before .before .args .packet in
-    let full : length (rules .records) ≡ 64 = search (needs, length-of-map) in (
-      c .before .before .before .before .loop .inv .0,
-      c .before .before .before .before .loop .inv .1
-          ∙ first-later ruleOf (rules .records) (rules .count) (λ (r : meaning.Rule). holds (r .block) (packetOf packet)) (c .before .before .before .before .loop .passed) zeroRule (omega arith) (omega arith) (sym (c .before .holds .ensures) ∙ c .if1 .left),
-    )
+    let full : length (rules .records) ≡ 64 = search (needs, length-of-map) in
+    c .before .before .before .before .loop .inv
+    ∙ first-later ruleOf (rules .records) (rules .count) (λ (r : meaning.Rule). holds (r .block) (packetOf packet)) (c .before .before .before .before .loop .passed) zeroRule (omega arith) (omega arith) (sym (c .before .holds .ensures) ∙ c .if1 .left)
 
 returns-2 : tie.Need-returns-2 Inv-loop μ-loop
 returns-2 c =
@@ -74,7 +71,7 @@ returns-2 c =
     let packet = c .before .before .before .args .packet in
     let full : length (rules .records) ≡ 64 = search (needs, length-of-map) in
     sym
-    (c .before .loop .inv .1
+    (c .before .loop .inv
     ∙ first-over ruleOf (rules .records) (rules .count) (λ (r : meaning.Rule). holds (r .block) (packetOf packet)) (c .before .loop .passed) (omega arith))
 
 pub deciding-spec : {M : Type 1} → statement M

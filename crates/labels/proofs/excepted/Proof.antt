@@ -3,7 +3,7 @@ use mathlib.Core.Bool.{true}
 use mathlib.Core.List.{List}
 use mathlib.Core.Path.{subst, subst⁻¹, _≡_}
 use native.Mathlib.Omega.{arith}
-use Prim.Native.Nat.{ℕ, _-_, _+_, _<_, min}
+use Prim.Native.Nat.{ℕ, _-_, _+_, _<_}
 use borrow.Author.Needs.{needs}
 use lib.ListN.{length, drop, getD, set}
 use Rattle.meaning.specs.Form.{Exception}
@@ -17,7 +17,7 @@ use Rattle.labels.proofs.excepted.Tie as tie
 
 abbrev Inv-loop : tie.InvT-loop
 Inv-loop packet policy count marks₀ i₀ marks i =
-    (count ≡ min (policy .«exception_count») 64) × Marked (packetOf packet) (exceptionsOf policy) (drop i (exceptionsOf policy)) marks
+    Marked (packetOf packet) (exceptionsOf policy) (drop i (exceptionsOf policy)) marks
 
 abbrev μ-loop : tie.MeasureT-loop
 μ-loop packet policy count marks₀ i₀ marks i = count - i
@@ -26,7 +26,7 @@ at-most-requires : tie.Need-at-most-requires Inv-loop μ-loop
 at-most-requires c κs = search needs
 
 loop-holds : tie.Need-loop-holds Inv-loop μ-loop
-loop-holds c = (c .at-most .ensures, marked-start (packetOf (c .before .args .packet)) (exceptionsOf (c .before .args .t1)))
+loop-holds c = marked-start (packetOf (c .before .args .packet)) (exceptionsOf (c .before .args .t1))
 
 mul-exception : tie.Need-mul-exception Inv-loop μ-loop
 mul-exception c = search needs
@@ -55,12 +55,10 @@ loop-again c =
     let e = exceptionOf (getD (policy .exceptions) (c .before .before .before .loop .i) zeroException) in
     let left = drop (c .before .before .before .loop .i + 1) (exceptionsOf policy) in
     let full : length (policy .exceptions) ≡ 64 = search (needs, length-of-map) in
-    let this = next exceptionOf (policy .exceptions) (policy .«exception_count») (c .before .before .before .loop .i) zeroException (omega arith) (omega arith) in (
-      c .before .before .before .loop .inv .0,
-      subst⁻¹ (λ (k : ℕ). Marked p (exceptionsOf policy) left (set (c .before .before .before .loop .marks) k true)) (c .speaks-for .ensures)
-          (marked-more p (exceptionsOf policy) e left (c .before .before .before .loop .marks)
-          (subst (λ (es : List Exception). Marked p (exceptionsOf policy) es (c .before .before .before .loop .marks)) this (c .before .before .before .loop .inv .1))),
-    )
+    let this = next exceptionOf (policy .exceptions) (policy .«exception_count») (c .before .before .before .loop .i) zeroException (omega arith) (omega arith) in
+    subst⁻¹ (λ (k : ℕ). Marked p (exceptionsOf policy) left (set (c .before .before .before .loop .marks) k true)) (c .speaks-for .ensures)
+    (marked-more p (exceptionsOf policy) e left (c .before .before .before .loop .marks)
+    (subst (λ (es : List Exception). Marked p (exceptionsOf policy) es (c .before .before .before .loop .marks)) this (c .before .before .before .loop .inv)))
 
 returns : tie.Need-returns Inv-loop μ-loop
 returns c =
@@ -69,7 +67,7 @@ returns c =
     let full : length (policy .exceptions) ≡ 64 = search (needs, length-of-map) in
     let none-left = over exceptionOf (policy .exceptions) (policy .«exception_count») (c .before .loop .i) (omega arith) in
     record {
-      at = marked-end p (exceptionsOf policy) (c .before .loop .marks) (subst (λ (es : List Exception). Marked p (exceptionsOf policy) es (c .before .loop .marks)) none-left (c .before .loop .inv .1));
+      at = marked-end p (exceptionsOf policy) (c .before .loop .marks) (subst (λ (es : List Exception). Marked p (exceptionsOf policy) es (c .before .loop .marks)) none-left (c .before .loop .inv));
     }
 
 pub excepted-spec : {M : Type 1} → statement M

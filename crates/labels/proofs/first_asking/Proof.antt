@@ -1,7 +1,7 @@
 -- The invariant: the lowest directive that asks is the first among those from i on. Assumes nothing.
 use mathlib.Core.Path.{_≡_, sym, _∙_}
 use native.Mathlib.Omega.{arith}
-use Prim.Native.Nat.{_-_, _+_, min}
+use Prim.Native.Nat.{_-_, _+_}
 use borrow.Author.Needs.{needs}
 use lib.ListN.{length}
 use Rattle.meaning.specs.Form.{policyOf}
@@ -15,8 +15,7 @@ use Rattle.labels.proofs.first_asking.Tie as tie
 
 abbrev Inv-loop : tie.InvT-loop
 Inv-loop action packet policy marks count i₀ i =
-    (count ≡ min (policy .«directive_count») 32)
-    × (lowestAsking (policyOf (policySetOf policy)) (actionOf action) (packetOf packet) ≡ askingLeft policy (actionOf action) (packetOf packet) i)
+    (lowestAsking (policyOf (policySetOf policy)) (actionOf action) (packetOf packet) ≡ askingLeft policy (actionOf action) (packetOf packet) i)
 
 abbrev μ-loop : tie.MeasureT-loop
 μ-loop action packet policy marks count i₀ i = count - i
@@ -25,7 +24,7 @@ at-most-requires : tie.Need-at-most-requires Inv-loop μ-loop
 at-most-requires c κs = search needs
 
 loop-holds : tie.Need-loop-holds Inv-loop μ-loop
-loop-holds c = (c .at-most .ensures, asking-start (c .before .args .t1) (actionOf (c .before .args .action)) (packetOf (c .before .args .packet)))
+loop-holds c = asking-start (c .before .args .t1) (actionOf (c .before .args .action)) (packetOf (c .before .args .packet))
 
 mul-directive : tie.Need-mul-directive Inv-loop μ-loop
 mul-directive c = search needs
@@ -52,7 +51,7 @@ returns c =
     let p = packetOf (c .before .before .before .before .before .before .args .packet) in
     let full : length (policy .directives) ≡ 32 = search (needs, length-of-map) in
     sym
-    (c .before .before .before .before .loop .inv .1
+    (c .before .before .before .before .loop .inv
     ∙ asking-here policy a p (c .before .before .before .before .loop .i) (omega arith) (omega arith) _ (c .before .before .before .before .before .before .pre .at (c .before .before .before .before .loop .i + 1) (omega arith) (omega arith)) (sym (c .before .asks .ensures) ∙ c .if1 .taken))
 
 loop-less : tie.Need-loop-less Inv-loop μ-loop
@@ -63,17 +62,15 @@ loop-again c =
     let policy = c .before .before .before .before .before .before .args .t1 in
     let a = actionOf (c .before .before .before .before .before .before .args .action) in
     let p = packetOf (c .before .before .before .before .before .before .args .packet) in
-    let full : length (policy .directives) ≡ 32 = search (needs, length-of-map) in (
-      c .before .before .before .before .loop .inv .0,
-      c .before .before .before .before .loop .inv .1
-          ∙ asking-later policy a p (c .before .before .before .before .loop .i) (omega arith) (omega arith) _ (c .before .before .before .before .before .before .pre .at (c .before .before .before .before .loop .i + 1) (omega arith) (omega arith)) (sym (c .before .asks .ensures) ∙ c .if1 .left),
-    )
+    let full : length (policy .directives) ≡ 32 = search (needs, length-of-map) in
+    c .before .before .before .before .loop .inv
+    ∙ asking-later policy a p (c .before .before .before .before .loop .i) (omega arith) (omega arith) _ (c .before .before .before .before .before .before .pre .at (c .before .before .before .before .loop .i + 1) (omega arith) (omega arith)) (sym (c .before .asks .ensures) ∙ c .if1 .left)
 
 returns-2 : tie.Need-returns-2 Inv-loop μ-loop
 returns-2 c =
     let policy = c .before .before .before .args .t1 in
     let full : length (policy .directives) ≡ 32 = search (needs, length-of-map) in
-    sym (c .before .loop .inv .1 ∙ asking-over policy (actionOf (c .before .before .before .args .action)) (packetOf (c .before .before .before .args .packet)) (c .before .loop .i) (omega arith))
+    sym (c .before .loop .inv ∙ asking-over policy (actionOf (c .before .before .before .args .action)) (packetOf (c .before .before .before .args .packet)) (c .before .loop .i) (omega arith))
 
 pub first-asking-spec : {M : Type 1} → statement M
 first-asking-spec =
