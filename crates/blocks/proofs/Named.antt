@@ -2,19 +2,18 @@
 -- packet is before the lowest, narrowing keeps the packets that the bounds hold, or the block. Assumes nothing.
 use mathlib.Core.Bool.{true, false, _&&_, true≢false}
 use mathlib.Core.Logic.{_↔_}
-use mathlib.Core.Path.{_≡_, refl, sym, ap, subst, _∙_}
-use Prim.Native.Nat.{ℕ, _<_}
+use mathlib.Core.Path.{_≡_, refl, sym, ap, subst, subst⁻¹, _∙_}
+use Prim.Native.Nat.{ℕ}
 use lib.Dec.{T}
 use lib.ListN.{getD}
-use lib.Pow.{pow-pos}
 use Rattle.meaning.specs.Blocks as blocks
 use Rattle.meaning.specs.Blocks.{holds, Holds, widest, narrows, bounded}
 use Rattle.meaning.specs.Fields as meaning
 use Rattle.meaning.specs.Fields.{widths, fields, IsPacket, Before, lowest}
 use Rattle.meaning.specs.Form.{blockInForm}
-use Rattle.meaning.specs.Records.{Every, every-none, every-more}
+use Rattle.meaning.proofs.BlockHolding.{widest-holds-range, widest-holds-only-range}
 use Rattle.meaning.proofs.BlockNarrowing.{block-stays, others-stay, narrow-holds}
-use Rattle.meaning.proofs.FormLaws.{packet-in-form-iff, narrow-in-form}
+use Rattle.meaning.proofs.FormLaws.{narrow-in-form}
 use Rattle.meaning.proofs.PacketOrder.{lowest-is-least, lowest-in-range}
 use Rattle.meaning.proofs.Tests.{passed, passes}
 use Rattle.blocks.specs.Vocabulary.{spanOf, blockOf, packetOf, NarrowedIn}
@@ -23,21 +22,17 @@ use Rattle.blocks.specs.declared.Narrowed.{Narrowed}
 use Rattle.blocks.specs.declared.Packet.{Packet}
 use Rattle.blocks.specs.declared.Span.{Span}
 use Rattle.blocks.proofs.OneAnswer.{one-block}
-use Rattle.blocks.proofs.Widest.{packet-form-by-widest}
+use Rattle.blocks.proofs.Widest.{positive}
 
 -- `WIDEST`, and every block of which its contract holds
 pub widest-holds-iff : (b : Block) → blockOf b ≡ widest fields → (p : meaning.Packet) → Holds (blockOf b) p ↔ IsPacket fields p
 widest-holds-iff b e p =
-    let form = packet-form-by-widest widths p ∙ ap (λ (c : blocks.Block). holds c p) (sym e) in
-    (λ t. packet-in-form-iff fields p .0 (subst T (sym form) t), λ i. subst T form (packet-in-form-iff fields p .1 i))
-
-some-number : Every (λ n. 0 < n) fields
-some-number = every-more (pow-pos 32) (every-more (pow-pos 32) (every-more (pow-pos 8) (every-more (pow-pos 16) every-none)))
+    (λ t. widest-holds-only-range (positive widths) p (subst (λ (c : blocks.Block). Holds c p) e t), λ i. subst⁻¹ (λ (c : blocks.Block). Holds c p) e (widest-holds-range fields p i))
 
 -- `LOWEST`
 pub lowest-is-first : (p : Packet) → packetOf p ≡ lowest fields → IsPacket fields (packetOf p) × ((q : meaning.Packet) → Before q (packetOf p) → ⊥)
 lowest-is-first p e =
-    (subst (λ (q : meaning.Packet). IsPacket fields q) (sym e) (lowest-in-range some-number), λ q before. lowest-is-least fields q (subst (λ (r : meaning.Packet). Before q r) e before))
+    (subst (λ (q : meaning.Packet). IsPacket fields q) (sym e) (lowest-in-range (positive widths)), λ q before. lowest-is-least fields q (subst (λ (r : meaning.Packet). Before q r) e before))
 
 -- narrowing in any field
 module _ (k : ℕ) (bounds : Span) (b : Block) (r : Narrowed) (narrowed : NarrowedIn k bounds b r) where

@@ -8,13 +8,16 @@ use Prim.Native.Nat.{ℕ, _-_, _<_, _≤_, _^_}
 use borrow.Author.Tests.{le-leb}
 use lib.Dec.{leb, ltb, leb→le, le→leb, ltb→lt, lt→ltb}
 use lib.Pow.{pow-pos}
-use Rattle.meaning.specs.Blocks.{Block, within, holds, inside, widest}
+use Rattle.meaning.specs.Blocks.{Block, holds, inside, widest}
 use Rattle.meaning.specs.Fields.{sizeOf, Packet}
 use Rattle.meaning.specs.Form.{blockInForm, packetInForm}
+use Rattle.meaning.specs.Records.{Every, every-none, every-more}
+use Rattle.meaning.proofs.BlockHolding.{widest-holds-range, widest-holds-only-range}
+use Rattle.meaning.proofs.FormLaws.{packet-in-form-iff}
 use Rattle.meaning.proofs.Tests.{same-test}
-use Rattle.blocks.specs.Vocabulary.{rising}
+use Rattle.blocks.specs.Inner.{rising}
 
--- x is not past the largest number of a field w wide, said as of the whole field's bounds, of which the low one holds every y
+-- x is not past the largest number of a field w wide: said as of the whole field's bounds, of which the low one is below every y
 below-size : (w y x : ℕ) → ltb x (sizeOf w) ≡ (leb 0 y && leb x (sizeOf w - 1))
 below-size w y x =
     let some-number : 0 < 2 ^ w = pow-pos w in
@@ -23,12 +26,16 @@ below-size w y x =
     (λ t. let h : x ≤ 2 ^ w - 1 = leb→le x (sizeOf w - 1) t in lt→ltb x (sizeOf w) (omega (arith, h, some-number)))
     ∙ ap (λ (t : Bool). t && leb x (sizeOf w - 1)) (sym (le-leb 0 y (omega arith)))
 
+pub positive : (ws : List ℕ) → Every (λ n. 0 < n) (map sizeOf ws)
+positive [] = every-none
+positive (w ∷ ws) = every-more (pow-pos w) (positive ws)
+
 pub packet-form-by-widest : (ws : List ℕ) (p : Packet) → packetInForm (map sizeOf ws) p ≡ holds (widest (map sizeOf ws)) p
-unfolding packetInForm holds within
-packet-form-by-widest [] [] = refl
-packet-form-by-widest [] (x ∷ p) = refl
-packet-form-by-widest (w ∷ ws) [] = refl
-packet-form-by-widest (w ∷ ws) (x ∷ p) = λ i. below-size w x x i && packet-form-by-widest ws p i
+packet-form-by-widest ws p =
+    let ns = map sizeOf ws in
+    same-test (packetInForm ns p) (holds (widest ns) p)
+    (λ t. widest-holds-range ns p (packet-in-form-iff ns p .0 t))
+    (λ h. packet-in-form-iff ns p .1 (widest-holds-only-range (positive ws) p h))
 
 regrouped : (a b c d : Bool) → (a && b && (c && d)) ≡ (a && c && (b && d))
 regrouped true true c d = refl

@@ -1,9 +1,7 @@
 -- What the types of this crate stand for among `meaning`'s lists.
-use mathlib.Core.Bool.{Bool, true, _&&_}
 use mathlib.Core.List.{[], _∷_}
 use mathlib.Core.Path.{_≡_}
 use Prim.Native.Nat.{ℕ}
-use lib.Dec.{leb}
 use Rattle.meaning.specs.Blocks as blocks
 use Rattle.meaning.specs.Fields as fields
 use Rattle.blocks.specs.declared.Block.{Block}
@@ -22,11 +20,6 @@ blockOf b = spanOf (b .source) ∷ spanOf (b .destination) ∷ spanOf (b .protoc
 -- a number for each field, in the order of the fields
 abbrev pub packetOf : Packet → fields.Packet
 packetOf p = p .source ∷ p .destination ∷ p .protocol ∷ p .port ∷ []
-
--- no low is above its high
-unfoldable pub rising : blocks.Block → Bool
-rising [] = true
-rising (s ∷ b) = leb (s .low) (s .high) && rising b
 
 -- r is what narrowing b in field k, counted from 0, hands back: the block, and whether numbers were shared
 pub record NarrowedIn (k : ℕ) (bounds : Span) (b : Block) (r : Narrowed) : Type 0 where

@@ -10,7 +10,8 @@ ghost use lib.Dec.{leb};
 ghost use Rattle.meaning.specs.Blocks.{within, holds, inside, widest, shares, narrowSpan};
 ghost use Rattle.meaning.specs.Fields.{fields, lowest};
 ghost use Rattle.meaning.specs.Form.{blockInForm, packetInForm};
-ghost use Rattle.blocks.specs.Vocabulary.{spanOf, blockOf, packetOf, rising, NarrowedIn};
+ghost use Rattle.blocks.specs.Inner.{rising};
+ghost use Rattle.blocks.specs.Vocabulary.{spanOf, blockOf, packetOf, NarrowedIn};
 
 // The numbers from low to high, both included; none if low is above high.
 pub struct Span {
@@ -93,10 +94,10 @@ impl Block {
     pub fn holds(self, packet: Packet) -> bool
         ensures { λ r. ⌜ r ≡ holds (blockOf self) (packetOf packet) ⌝ }
     {
-        if self.source.within(packet.source) {
-            if self.destination.within(packet.destination) {
-                if self.protocol.within(packet.protocol) {
-                    return self.port.within(packet.port);
+        if self.source.holds(packet.source) {
+            if self.destination.holds(packet.destination) {
+                if self.protocol.holds(packet.protocol) {
+                    return self.port.holds(packet.port);
                 }
             }
         }
@@ -107,24 +108,10 @@ impl Block {
     pub fn inside(self, other: Block) -> bool
         ensures { λ r. ⌜ r ≡ inside (blockOf self) (blockOf other) ⌝ }
     {
-        if self.source.between(other.source) {
-            if self.destination.between(other.destination) {
-                if self.protocol.between(other.protocol) {
-                    return self.port.between(other.port);
-                }
-            }
-        }
-        false
-    }
-
-    // Whether no low is above its high.
-    fn rising(self) -> bool
-        ensures { λ r. ⌜ r ≡ rising (blockOf self) ⌝ }
-    {
-        if self.source.low <= self.source.high {
-            if self.destination.low <= self.destination.high {
-                if self.protocol.low <= self.protocol.high {
-                    return self.port.low <= self.port.high;
+        if self.source.inside(other.source) {
+            if self.destination.inside(other.destination) {
+                if self.protocol.inside(other.protocol) {
+                    return self.port.inside(other.port);
                 }
             }
         }
@@ -195,6 +182,20 @@ impl Block {
             shared: narrowed.shared,
         }
     }
+
+    // Whether no low is above its high.
+    fn rising(self) -> bool
+        ensures { λ r. ⌜ r ≡ rising (blockOf self) ⌝ }
+    {
+        if self.source.low <= self.source.high {
+            if self.destination.low <= self.destination.high {
+                if self.protocol.low <= self.protocol.high {
+                    return self.port.low <= self.port.high;
+                }
+            }
+        }
+        false
+    }
 }
 
 // A span narrowed, and whether numbers were shared.
@@ -205,7 +206,7 @@ struct NarrowedSpan {
 
 impl Span {
     // Whether the span holds the number.
-    fn within(self, number: u32) -> bool
+    fn holds(self, number: u32) -> bool
         ensures { λ r. ⌜ r ≡ within (spanOf self) number ⌝ }
     {
         if self.low <= number {
@@ -216,7 +217,7 @@ impl Span {
     }
 
     // Whether both bounds lie between the other's.
-    fn between(self, other: Span) -> bool
+    fn inside(self, other: Span) -> bool
         ensures { λ r. ⌜ r ≡ (leb (other .low) (self .low) && leb (self .high) (other .high)) ⌝ }
     {
         if other.low <= self.low {

@@ -20,10 +20,11 @@ use Rattle.meaning.proofs.RecordsFirst.{number-within}
 use Rattle.meaning.proofs.Tests.{passed, failed}
 use Rattle.sets.specs.declared.Policy.{Policy}
 use Rattle.sets.specs.Empty.{zeroDirective}
-use Rattle.sets.specs.Vocabulary.{directiveOf, directivesOf, exceptionsOf, policySetOf}
+use Rattle.sets.specs.Inner.{directivesOf, exceptionsOf}
+use Rattle.sets.specs.Vocabulary.{directiveOf, policySetOf}
 use Rattle.sets.proofs.Walks.{next, over}
-use Rattle.labels.specs.Answers.{askedBy}
-use Rattle.labels.proofs.Marks.{speaking}
+use Rattle.labels.specs.Inner.{askedBy}
+use Rattle.labels.proofs.Marks.{exceptedAmong}
 
 pub asked-by-number : (policy : policies.Policy) (a : rules.Action) (p : Packet) → policies.asked policy a p ≡ ltb 0 (policies.lowestAsking policy a p)
 asked-by-number policy a p = from (policies.lowestAsking policy a p) (asking-is-lowest policy a p)
@@ -63,7 +64,7 @@ module _ (s : Policy) (a : rules.Action) (p : Packet) where
   asking-start = refl
 
   -- what directive i, counted from 0, asks, where it is told whether an exception of it holds p
-  module _ (i : ℕ) (counted : i < s .«directive_count») (there : i < length (s .directives)) (excepted : Bool) (told : excepted ≡ speaking p (i + 1) (exceptionsOf s)) where
+  module _ (i : ℕ) (counted : i < s .«directive_count») (there : i < length (s .directives)) (excepted : Bool) (told : excepted ≡ exceptedAmong p (i + 1) (exceptionsOf s)) where
     abbrev d : rules.Rule
     d = directiveOf (getD (s .directives) i zeroDirective)
 

@@ -2,13 +2,10 @@
 use mathlib.Core.Bool.{true, false}
 use mathlib.Core.Path.{_≡_}
 use Prim.Native.Nat.{ℕ}
-use Rattle.meaning.specs.Labels.{Label, good, wrong, judged}
-use Rattle.meaning.specs.Records.{Found, found}
+use Rattle.meaning.specs.Labels.{good, wrong, judged}
+use Rattle.meaning.specs.Records.{found}
 use Rattle.meaning.specs.Rules.{Action, accept, deny, sameAction, Rule}
-
--- the label where only a is asked
-abbrev pub oneAsked : Action → Found Rule → Label
-oneAsked a d = judged (sameAction accept a) (sameAction deny a) d
+use Rattle.labels.specs.Inner.{oneAsked}
 
 module _ (n : ℕ) (r : Rule) where
   pub one-done : (a : Action) → sameAction a (r .action) ≡ true → oneAsked a (found n r) ≡ good

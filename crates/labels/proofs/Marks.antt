@@ -13,25 +13,25 @@ use Rattle.meaning.specs.Blocks.{Block, holds}
 use Rattle.meaning.specs.Fields.{Packet}
 use Rattle.meaning.specs.Form.{Exception, naming, mostDirectives}
 use Rattle.meaning.specs.Records.{someOf}
-use Rattle.labels.specs.Answers.{speaksFor}
+use Rattle.labels.specs.Inner.{exceptedDirective}
 
 module _ (p : Packet) where
   -- an exception among these names n and holds p
-  abbrev pub speaking : ℕ → List Exception → Bool
-  speaking n es = someOf (λ (b : Block). holds b p) (naming n es)
+  abbrev pub exceptedAmong : ℕ → List Exception → Bool
+  exceptedAmong n es = someOf (λ (b : Block). holds b p) (naming n es)
 
-  speaking-more : (n : ℕ) (e : Exception) (es : List Exception) → speaking n (e ∷ es) ≡ (eqb (e .directive) n && holds (e .block) p || speaking n es)
+  excepted-more : (n : ℕ) (e : Exception) (es : List Exception) → exceptedAmong n (e ∷ es) ≡ (eqb (e .directive) n && holds (e .block) p || exceptedAmong n es)
   unfolding naming someOf
-  speaking-more n e es = by-test (eqb (e .directive) n)
+  excepted-more n e es = by-test (eqb (e .directive) n)
     where
       by-test : (t : Bool)
-          → someOf (λ (b : Block). holds b p) (cond t (e .block ∷ naming n es) (naming n es)) ≡ (t && holds (e .block) p || speaking n es)
+          → someOf (λ (b : Block). holds b p) (cond t (e .block ∷ naming n es) (naming n es)) ≡ (t && holds (e .block) p || exceptedAmong n es)
       by-test true = refl
       by-test false = refl
 
   -- for a directive's number it comes to the same whether an exception names it and holds p, or speaks for it
-  spoken : (n : ℕ) (e : Exception) → 1 ≤ n → n ≤ mostDirectives → (eqb (e .directive) n && holds (e .block) p) ≡ eqb (speaksFor p e) n
-  spoken n e one most = by-tests (holds (e .block) p) (leb (e .directive) mostDirectives) refl
+  named-and-held : (n : ℕ) (e : Exception) → 1 ≤ n → n ≤ mostDirectives → (eqb (e .directive) n && holds (e .block) p) ≡ eqb (exceptedDirective p e) n
+  named-and-held n e one most = by-tests (holds (e .block) p) (leb (e .directive) mostDirectives) refl
     where
       none : false ≡ eqb 0 n
       none = sym (ne-eqb 0 n (λ z. omega arith))
@@ -43,8 +43,8 @@ module _ (p : Packet) where
           ap (λ (b : Bool). b && true) (ne-eqb (e .directive) n (λ z. omega arith)) ∙ none
       by-tests false t few = and-false (eqb (e .directive) n) ∙ none
 
-  pub speaks-within : (e : Exception) → speaksFor p e < 33
-  speaks-within e = by-tests (holds (e .block) p) (leb (e .directive) mostDirectives) refl
+  pub excepted-within : (e : Exception) → exceptedDirective p e < 33
+  excepted-within e = by-tests (holds (e .block) p) (leb (e .directive) mostDirectives) refl
     where
       by-tests : (h t : Bool) → leb (e .directive) mostDirectives ≡ t → cond (h && t) (e .directive) 0 < 33
       by-tests true true few = let most : e .directive ≤ 32 = leb-true (e .directive) mostDirectives few in omega arith
@@ -61,29 +61,29 @@ module _ (p : Packet) where
   -- the marks of the exceptions passed and those still to speak are together those of all
   pub record Marked (all left : List Exception) (marks : List Bool) : Type 0 where
     pub full : length marks ≡ 33
-    pub at : (n : ℕ) → 1 ≤ n → n ≤ mostDirectives → (getD marks n false || speaking n left) ≡ speaking n all
+    pub at : (n : ℕ) → 1 ≤ n → n ≤ mostDirectives → (getD marks n false || exceptedAmong n left) ≡ exceptedAmong n all
 
   pub marked-start : (es : List Exception) → Marked es es (replicate 33 false)
   marked-start es =
       record {
         full = length-replicate 33 false;
-        at = λ n one most. ap (λ (b : Bool). b || speaking n es) (getD-replicate 33 n false false (omega arith));
+        at = λ n one most. ap (λ (b : Bool). b || exceptedAmong n es) (getD-replicate 33 n false false (omega arith));
       }
 
   pub marked-more : (all : List Exception) (e : Exception) (left : List Exception) (marks : List Bool)
-      → Marked all (e ∷ left) marks → Marked all left (set marks (speaksFor p e) true)
+      → Marked all (e ∷ left) marks → Marked all left (set marks (exceptedDirective p e) true)
   marked-more all e left marks m =
       record {
-        full = length-set marks (speaksFor p e) true ∙ m .full;
+        full = length-set marks (exceptedDirective p e) true ∙ m .full;
         at = λ n one most.
-            ap (λ (b : Bool). b || speaking n left) (mark-set marks (speaksFor p e) n (omega (arith, m .full, speaks-within e)))
-            ∙ or-assoc (getD marks n false) (eqb (speaksFor p e) n) (speaking n left)
-            ∙ ap (λ (b : Bool). getD marks n false || (b || speaking n left)) (sym (spoken n e one most))
-            ∙ ap (λ (b : Bool). getD marks n false || b) (sym (speaking-more n e left))
+            ap (λ (b : Bool). b || exceptedAmong n left) (mark-set marks (exceptedDirective p e) n (omega (arith, m .full, excepted-within e)))
+            ∙ or-assoc (getD marks n false) (eqb (exceptedDirective p e) n) (exceptedAmong n left)
+            ∙ ap (λ (b : Bool). getD marks n false || (b || exceptedAmong n left)) (sym (named-and-held n e one most))
+            ∙ ap (λ (b : Bool). getD marks n false || b) (sym (excepted-more n e left))
             ∙ m .at n one most;
       }
 
   pub marked-end : (all : List Exception) (marks : List Bool) → Marked all [] marks
-      → (n : ℕ) → 1 ≤ n → n ≤ mostDirectives → getD marks n false ≡ speaking n all
+      → (n : ℕ) → 1 ≤ n → n ≤ mostDirectives → getD marks n false ≡ exceptedAmong n all
   unfolding someOf naming
   marked-end all marks m n one most = sym (or-false (getD marks n false)) ∙ m .at n one most

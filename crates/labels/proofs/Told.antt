@@ -1,8 +1,7 @@
 -- What the label call tells: the packet's label where all is in form, and kind 0 and rule 0 where something is refused. Assumes
 -- nothing.
 use mathlib.Core.Path.{_≡_, ap, _∙_}
-use borrow.Author.Tests.{eq-eqb, ne-eqb}
-use Prim.Native.Nat.{ℕ}
+use borrow.Author.Tests.{ne-eqb}
 use lib.Dec.{T}
 use Rattle.meaning.specs.Fields.{fields, IsPacket}
 use Rattle.meaning.specs.Form.{tableOf, policyOf, rulesInForm, policyInForm, unrefused}
@@ -13,8 +12,8 @@ use Rattle.blocks.specs.Vocabulary.{packetOf}
 use Rattle.sets.specs.declared.Policy.{Policy}
 use Rattle.sets.specs.declared.Rules.{Rules}
 use Rattle.sets.specs.Vocabulary.{ruleSetOf, policySetOf, labelOf, refusalOf}
-use Rattle.labels.specs.declared.Labelled.{Labelled}
 use Rattle.labels.specs.Answers.{LabelledAs}
+use Rattle.labels.specs.declared.Labelled.{Labelled}
 
 module _ (rules : Rules) (policy : Policy) (packet : Packet) (r : Labelled) (told : LabelledAs rules policy packet r) where
   pub label-in-form : T (rulesInForm fields (ruleSetOf rules)) → T (policyInForm fields (policySetOf policy)) → IsPacket fields (packetOf packet)

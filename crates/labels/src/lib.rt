@@ -1,7 +1,8 @@
 // The label of a packet, for any rules, policy and packet: its kind and rule, or refusal 14. Beside it the lowest directive
-// that asks for an action at a packet, and the rule that decides it. One packet costs one pass over the rules up to the one
-// that decides, one over the exceptions and one over the directives for each action; no set is copied in a loop. Each
-// contract says that the answer is what `meaning` defines for what the values stand for, and so leaves one answer only.
+// that asks for an action at a packet, and the rule that decides it. `label` looks at the form of all records within the
+// counts; then it goes over the rules up to the one that decides, over the exceptions, and over the directives for each
+// action. No set is copied in a loop. Each contract says that the answer is what `meaning` defines for what the values
+// stand for, and so leaves one answer only.
 
 use blocks::Packet;
 use sets::Action;
@@ -18,10 +19,11 @@ ghost use Rattle.meaning.specs.Blocks.{holds};
 ghost use Rattle.meaning.specs.Form.{tableOf, policyOf};
 ghost use Rattle.meaning.specs.Labels.{judged, label};
 ghost use Rattle.meaning.specs.Policies.{lowestAsking};
-ghost use Rattle.meaning.specs.Rules.{accept, deny, sameAction, deciding};
+ghost use Rattle.meaning.specs.Rules.{sameAction, deciding};
 ghost use Rattle.blocks.specs.Vocabulary.{blockOf, packetOf};
 ghost use Rattle.sets.specs.Vocabulary.{actionOf, exceptionOf, ruleSetOf, policySetOf, labelOf};
-ghost use Rattle.labels.specs.Answers.{decidedOf, LabelledAs, askedBy, Excepted, speaksFor};
+ghost use Rattle.labels.specs.Answers.{decidedOf, LabelledAs};
+ghost use Rattle.labels.specs.Inner.{oneAsked, askedBy, Excepted, exceptedDirective};
 
 // A mark for each directive's number, and one at 0 for none.
 const MARKS: usize = sets::MOST_DIRECTIVES + 1;
@@ -97,10 +99,10 @@ fn judge(accept: bool, deny: bool, decided: Decided) -> Label
         if deny {
             return Label::Conflict;
         }
-        return met(Action::Accept, decided);
+        return judge_one(Action::Accept, decided);
     }
     if deny {
-        return met(Action::Deny, decided);
+        return judge_one(Action::Deny, decided);
     }
     match decided {
         Decided::By(number, _) => Label::Unasked(number),
@@ -108,9 +110,9 @@ fn judge(accept: bool, deny: bool, decided: Decided) -> Label
     }
 }
 
-// The label where only this action is asked.
-fn met(asked: Action, decided: Decided) -> Label
-    ensures { λ r. ⌜ labelOf r ≡ judged (sameAction accept (actionOf asked)) (sameAction deny (actionOf asked)) (decidedOf decided) ⌝ }
+// The label where this action is asked and the other is not.
+fn judge_one(asked: Action, decided: Decided) -> Label
+    ensures { λ r. ⌜ labelOf r ≡ oneAsked (actionOf asked) (decidedOf decided) ⌝ }
 {
     match decided {
         Decided::By(number, rule) => {
@@ -170,16 +172,16 @@ fn excepted(policy: Policy, packet: Packet) -> [bool; MARKS]
     let mut i: usize = 0;
     while i < count {
         let exception = policy.exceptions[i];
-        let number = speaks_for(exception, packet);
+        let number = excepted_directive(exception, packet);
         marks[number] = true;
         i += 1;
     }
     marks
 }
 
-// The directive that the exception names, if its block holds the packet, and else 0.
-fn speaks_for(exception: Exception, packet: Packet) -> usize
-    ensures { λ r. ⌜ r ≡ speaksFor (packetOf packet) (exceptionOf exception) ⌝ }
+// The directive that the exception names, if its block holds the packet, or 0.
+fn excepted_directive(exception: Exception, packet: Packet) -> usize
+    ensures { λ r. ⌜ r ≡ exceptedDirective (packetOf packet) (exceptionOf exception) ⌝ }
 {
     let named = exception.directive as usize;
     if exception.block.holds(packet) {

@@ -13,7 +13,8 @@ use Rattle.meaning.specs.Form.{Exception, insideOf, blockInForm, exceptionsInFo
 use Rattle.meaning.specs.Records.{numbered}
 use Rattle.meaning.specs.Rules.{Rule}
 use Rattle.sets.specs.Empty.{zeroException}
-use Rattle.sets.specs.Vocabulary.{exceptionOf, directivesOf, exceptionsOf}
+use Rattle.sets.specs.Inner.{directivesOf, exceptionsOf}
+use Rattle.sets.specs.Vocabulary.{exceptionOf}
 use Rattle.sets.specs.declared.Policy.{Policy}
 use Rattle.sets.proofs.Walks.{next}
 

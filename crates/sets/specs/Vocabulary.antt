@@ -1,8 +1,5 @@
 -- What the types of this crate stand for in `meaning`.
-use mathlib.Core.Bool.{Bool}
-use mathlib.Core.List.{List, map}
-use lib.ListN.{take}
-use Rattle.meaning.specs.Fields.{fields}
+use mathlib.Core.List.{map}
 use Rattle.meaning.specs.Form as form
 use Rattle.meaning.specs.Labels as labels
 use Rattle.meaning.specs.Rules as rules
@@ -18,16 +15,13 @@ use Rattle.sets.specs.declared.Refusal.{Refusal}
 use Rattle.sets.specs.declared.Rule.{Rule}
 use Rattle.sets.specs.declared.Rules.{Rules}
 
--- one of two actions
 abbrev pub actionOf : Action → rules.Action
 actionOf Deny = rules.deny
 actionOf Accept = rules.accept
 
--- an action and a block
 abbrev pub ruleOf : Rule → rules.Rule
 ruleOf r = record { action = actionOf (r .action); block = blockOf (r .block) }
 
--- a count and records
 abbrev pub ruleSetOf : Rules → form.RuleSet
 ruleSetOf s = record { count = s .count; records = map ruleOf (s .records) }
 
@@ -35,11 +29,9 @@ ruleSetOf s = record { count = s .count; records = map ruleOf (s .records) }
 abbrev pub directiveOf : Directive → rules.Rule
 directiveOf d = record { action = actionOf (d .action); block = blockOf (d .block) }
 
--- the number of a directive and a block
 abbrev pub exceptionOf : Exception → form.Exception
 exceptionOf e = record { directive = e .directive; block = blockOf (e .block) }
 
--- two counts and the records of each
 abbrev pub policySetOf : Policy → form.PolicySet
 policySetOf s =
     record {
@@ -58,18 +50,5 @@ labelOf (Unasked n) = labels.unasked n
 labelOf UnmetAccept = labels.unmet-accept
 labelOf UnmetDeny = labels.unmet-deny
 
--- three numbers
 abbrev pub refusalOf : Refusal → form.Refusal
 refusalOf r = record { number = r .number; line = r .line; field = r .field }
-
--- the directives within their count
-abbrev pub directivesOf : Policy → List rules.Rule
-directivesOf s = take (s .«directive_count») (map directiveOf (s .directives))
-
--- the exceptions within their count
-abbrev pub exceptionsOf : Policy → List form.Exception
-exceptionsOf s = take (s .«exception_count») (map exceptionOf (s .exceptions))
-
--- the test of form for a rule or a directive
-abbrev pub inForm : rules.Rule → Bool
-inForm r = form.blockInForm fields (r .block)

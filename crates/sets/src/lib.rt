@@ -16,7 +16,8 @@ ghost use Rattle.meaning.specs.Form.{mostDirectives, mostExceptions, unrefused,
 ghost use Rattle.meaning.specs.Labels.{kind, rule};
 ghost use Rattle.meaning.specs.Records.{allOf};
 ghost use Rattle.blocks.specs.Vocabulary.{blockOf, packetOf};
-ghost use Rattle.sets.specs.Vocabulary.{labelOf, refusalOf, ruleSetOf, policySetOf, directivesOf, exceptionsOf, inForm};
+ghost use Rattle.sets.specs.Inner.{directivesOf, exceptionsOf, inForm};
+ghost use Rattle.sets.specs.Vocabulary.{labelOf, refusalOf, ruleSetOf, policySetOf};
 ghost use Rattle.sets.specs.Empty.{emptyRules, emptyPolicy};
 
 // The limits of the sets.
@@ -275,7 +276,7 @@ fn directives_in_form(policy: Policy) -> bool
 }
 
 // Whether each exception within the count is in form: it names a directive, not a lower one than the exception before it,
-// and lies inside.
+// lies inside it, and its block is in form.
 fn exceptions_in_form(policy: Policy) -> bool
     requires { ⌜ (policy .«directive_count» ≤ mostDirectives) × (policy .«exception_count» ≤ mostExceptions) ⌝ }
     ensures { λ r. ⌜ r ≡ exceptionsInForm fields (directivesOf policy) 0 (exceptionsOf policy) ⌝ }

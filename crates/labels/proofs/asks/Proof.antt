@@ -6,7 +6,7 @@ use borrow.Author.Needs.{needs}
 use Rattle.meaning.specs.Blocks.{holds}
 use Rattle.blocks.specs.Vocabulary.{blockOf, packetOf}
 use Rattle.sets.specs.Vocabulary.{actionOf}
-use Rattle.labels.specs.Answers.{askedBy}
+use Rattle.labels.specs.Inner.{askedBy}
 use Rattle.labels.proofs.Asking.{own-excepted, other-asked}
 use Rattle.labels.proofs.asks.Statement.{statement}
 use Rattle.labels.proofs.asks.Tie as tie

@@ -1,4 +1,4 @@
--- The invariant: the deciding rule is the first that holds the packet among those not passed over. Assumes nothing.
+-- The invariant: the deciding rule is the first that holds the packet among those from i on. Assumes nothing.
 use mathlib.Core.Path.{_≡_, refl, sym, _∙_}
 use native.Mathlib.Omega.{arith}
 use Prim.Native.Nat.{_-_}

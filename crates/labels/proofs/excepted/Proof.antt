@@ -9,9 +9,10 @@ use lib.ListN.{length, drop, getD, set}
 use Rattle.meaning.specs.Form.{Exception}
 use Rattle.blocks.specs.Vocabulary.{packetOf}
 use Rattle.sets.specs.Empty.{zeroException}
-use Rattle.sets.specs.Vocabulary.{exceptionOf, exceptionsOf}
+use Rattle.sets.specs.Inner.{exceptionsOf}
+use Rattle.sets.specs.Vocabulary.{exceptionOf}
 use Rattle.sets.proofs.Walks.{next, over, length-of-map}
-use Rattle.labels.proofs.Marks.{speaks-within, Marked, marked-start, marked-more, marked-end}
+use Rattle.labels.proofs.Marks.{excepted-within, Marked, marked-start, marked-more, marked-end}
 use Rattle.labels.proofs.excepted.Statement.{statement}
 use Rattle.labels.proofs.excepted.Tie as tie
 
@@ -34,13 +35,13 @@ mul-exception c = search needs
 element-copy-out-exception : tie.Need-element-copy-out-exception Inv-loop μ-loop
 element-copy-out-exception c = search needs
 
-speaks-for-requires : tie.Need-speaks-for-requires Inv-loop μ-loop
-speaks-for-requires c κs = search needs
+excepted-directive-requires : tie.Need-excepted-directive-requires Inv-loop μ-loop
+excepted-directive-requires c κs = search needs
 
 array-write-marks : tie.Need-array-write-marks Inv-loop μ-loop
 array-write-marks c =
-    subst⁻¹ (λ (k : ℕ). k < 33) (c .speaks-for .ensures)
-    (speaks-within (packetOf (c .before .before .before .before .before .args .packet)) (exceptionOf (getD (c .before .before .before .before .before .args .t1 .exceptions) (c .before .before .before .loop .i) zeroException)))
+    subst⁻¹ (λ (k : ℕ). k < 33) (c .excepted-directive .ensures)
+    (excepted-within (packetOf (c .before .before .before .before .before .args .packet)) (exceptionOf (getD (c .before .before .before .before .before .args .t1 .exceptions) (c .before .before .before .loop .i) zeroException)))
 
 add-i : tie.Need-add-i Inv-loop μ-loop
 add-i c = search needs
@@ -56,7 +57,7 @@ loop-again c =
     let left = drop (c .before .before .before .loop .i + 1) (exceptionsOf policy) in
     let full : length (policy .exceptions) ≡ 64 = search (needs, length-of-map) in
     let this = next exceptionOf (policy .exceptions) (policy .«exception_count») (c .before .before .before .loop .i) zeroException (omega arith) (omega arith) in
-    subst⁻¹ (λ (k : ℕ). Marked p (exceptionsOf policy) left (set (c .before .before .before .loop .marks) k true)) (c .speaks-for .ensures)
+    subst⁻¹ (λ (k : ℕ). Marked p (exceptionsOf policy) left (set (c .before .before .before .loop .marks) k true)) (c .excepted-directive .ensures)
     (marked-more p (exceptionsOf policy) e left (c .before .before .before .loop .marks)
     (subst (λ (es : List Exception). Marked p (exceptionsOf policy) es (c .before .before .before .loop .marks)) this (c .before .before .before .loop .inv)))
 
@@ -80,7 +81,7 @@ excepted-spec =
     loop-holds
     mul-exception
     element-copy-out-exception
-    speaks-for-requires
+    excepted-directive-requires
     array-write-marks
     add-i
     loop-less

@@ -10,19 +10,19 @@ returns : tie.Need-returns
 unfolding judged
 returns c = simp (c .before .if1 .taken, c .if2 .taken)
 
-met-requires : tie.Need-met-requires
-met-requires c κs = search needs
+judge-one-requires : tie.Need-judge-one-requires
+judge-one-requires c κs = search needs
 
 returns-2 : tie.Need-returns-2
 unfolding sameAction
-returns-2 c = c .met .ensures ∙ simp (c .before .before .if1 .taken, c .before .if2 .left)
+returns-2 c = c .judge-one .ensures ∙ simp (c .before .before .if1 .taken, c .before .if2 .left)
 
-met-requires-2 : tie.Need-met-requires-2
-met-requires-2 c κs = search needs
+judge-one-requires-2 : tie.Need-judge-one-requires-2
+judge-one-requires-2 c κs = search needs
 
 returns-3 : tie.Need-returns-3
 unfolding sameAction
-returns-3 c = c .met2 .ensures ∙ simp (c .before .before .if1 .left, c .before .if3 .taken)
+returns-3 c = c .judge-one2 .ensures ∙ simp (c .before .before .if1 .left, c .before .if3 .taken)
 
 enum-known-decided : tie.Need-enum-known-decided
 enum-known-decided c = search needs
@@ -43,9 +43,9 @@ judge-spec =
     tie.close
     (tie.spec
     returns
-    met-requires
+    judge-one-requires
     returns-2
-    met-requires-2
+    judge-one-requires-2
     returns-3
     enum-known-decided
     enum-told

@@ -6,7 +6,8 @@ use borrow.Author.Needs.{needs}
 use lib.ListN.{length, drop}
 use Rattle.meaning.specs.Records.{allOf}
 use Rattle.sets.specs.Empty.{zeroDirective}
-use Rattle.sets.specs.Vocabulary.{directiveOf, directivesOf, inForm}
+use Rattle.sets.specs.Inner.{directivesOf, inForm}
+use Rattle.sets.specs.Vocabulary.{directiveOf}
 use Rattle.sets.proofs.Walks.{all-next, all-stop, all-over, length-of-map}
 use Rattle.sets.proofs.directives_in_form.Statement.{statement}
 use Rattle.sets.proofs.directives_in_form.Tie as tie

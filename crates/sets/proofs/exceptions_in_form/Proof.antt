@@ -8,7 +8,8 @@ use Rattle.meaning.specs.Fields.{fields}
 use Rattle.meaning.specs.Form.{exceptionsInForm}
 use Rattle.meaning.specs.Records.{numbered}
 use Rattle.sets.specs.Empty.{zeroDirective, zeroException}
-use Rattle.sets.specs.Vocabulary.{directiveOf, exceptionOf, directivesOf, exceptionsOf}
+use Rattle.sets.specs.Inner.{directivesOf, exceptionsOf}
+use Rattle.sets.specs.Vocabulary.{directiveOf, exceptionOf}
 use Rattle.sets.proofs.Exceptions.{naming-none, in-form-beside, out-of-form-beside}
 use Rattle.sets.proofs.Walks.{over, at-number, past-number, length-of-map}
 use Rattle.sets.proofs.exceptions_in_form.Statement.{statement}

@@ -9,7 +9,8 @@ use Rattle.meaning.specs.Fields.{fields}
 use Rattle.meaning.specs.Form.{rulesInForm, tableOf}
 use Rattle.meaning.specs.Records.{allOf}
 use Rattle.sets.specs.Empty.{zeroRule}
-use Rattle.sets.specs.Vocabulary.{ruleOf, ruleSetOf, inForm}
+use Rattle.sets.specs.Inner.{inForm}
+use Rattle.sets.specs.Vocabulary.{ruleOf, ruleSetOf}
 use Rattle.sets.proofs.Walks.{all-next, all-stop, all-over, length-of-map}
 use Rattle.sets.proofs.rules_in_form.Statement.{statement}
 use Rattle.sets.proofs.rules_in_form.Tie as tie

@@ -5,42 +5,42 @@ use Rattle.meaning.specs.Blocks.{holds}
 use Rattle.blocks.proofs.Block.holds.Statement.{statement}
 use Rattle.blocks.proofs.Block.holds.Tie as tie
 
-within-requires : tie.Need-within-requires
-within-requires c κs = search needs
+holds-requires : tie.Need-holds-requires
+holds-requires c κs = search needs
 
-within-requires-2 : tie.Need-within-requires-2
-within-requires-2 c κs = search needs
+holds-requires-2 : tie.Need-holds-requires-2
+holds-requires-2 c κs = search needs
 
-within-requires-3 : tie.Need-within-requires-3
-within-requires-3 c κs = search needs
+holds-requires-3 : tie.Need-holds-requires-3
+holds-requires-3 c κs = search needs
 
-within-requires-4 : tie.Need-within-requires-4
-within-requires-4 c κs = search needs
+holds-requires-4 : tie.Need-holds-requires-4
+holds-requires-4 c κs = search needs
 
 returns : tie.Need-returns
 unfolding holds
-returns c = simp (← c .before .before .before .before .before .before .within .ensures, ← c .before .before .before .before .within2 .ensures, ← c .before .before .within3 .ensures, ← c .within4 .ensures, c .before .before .before .before .before .if1 .taken, c .before .before .before .if2 .taken, c .before .if3 .taken, and-true)
+returns c = simp (← c .before .before .before .before .before .before .holds .ensures, ← c .before .before .before .before .holds2 .ensures, ← c .before .before .holds3 .ensures, ← c .holds4 .ensures, c .before .before .before .before .before .if1 .taken, c .before .before .before .if2 .taken, c .before .if3 .taken, and-true)
 
 returns-2 : tie.Need-returns-2
 unfolding holds
-returns-2 c = simp (← c .before .before .before .before .before .within .ensures, ← c .before .before .before .within2 .ensures, ← c .before .within3 .ensures, c .before .before .before .before .if1 .taken, c .before .before .if2 .taken, c .if3 .left)
+returns-2 c = simp (← c .before .before .before .before .before .holds .ensures, ← c .before .before .before .holds2 .ensures, ← c .before .holds3 .ensures, c .before .before .before .before .if1 .taken, c .before .before .if2 .taken, c .if3 .left)
 
 returns-3 : tie.Need-returns-3
 unfolding holds
-returns-3 c = simp (← c .before .before .before .within .ensures, ← c .before .within2 .ensures, c .before .before .if1 .taken, c .if2 .left)
+returns-3 c = simp (← c .before .before .before .holds .ensures, ← c .before .holds2 .ensures, c .before .before .if1 .taken, c .if2 .left)
 
 returns-4 : tie.Need-returns-4
 unfolding holds
-returns-4 c = simp (← c .before .within .ensures, c .if1 .left)
+returns-4 c = simp (← c .before .holds .ensures, c .if1 .left)
 
 pub holds-spec : {M : Type 1} → statement M
 holds-spec =
     tie.close
     (tie.spec
-    within-requires
-    within-requires-2
-    within-requires-3
-    within-requires-4
+    holds-requires
+    holds-requires-2
+    holds-requires-3
+    holds-requires-4
     returns
     returns-2
     returns-3

@@ -1,7 +1,7 @@
 -- Each span is asked in turn, and the first that falls settles it. Assumes nothing.
 use mathlib.Core.Bool.{and-true}
 use borrow.Author.Tests.{le-leb, lt-leb}
-use Rattle.blocks.specs.Vocabulary.{rising}
+use Rattle.blocks.specs.Inner.{rising}
 use Rattle.blocks.proofs.Block.rising.Statement.{statement}
 use Rattle.blocks.proofs.Block.rising.Tie as tie
 

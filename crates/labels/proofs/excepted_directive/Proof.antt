@@ -1,8 +1,8 @@
 -- Each test is made in turn, and the first that fails settles it. Assumes nothing.
 use borrow.Author.Needs.{needs}
 use borrow.Author.Tests.{le-leb, lt-leb}
-use Rattle.labels.proofs.speaks_for.Statement.{statement}
-use Rattle.labels.proofs.speaks_for.Tie as tie
+use Rattle.labels.proofs.excepted_directive.Statement.{statement}
+use Rattle.labels.proofs.excepted_directive.Tie as tie
 
 cast-named : tie.Need-cast-named
 cast-named c = search needs
@@ -19,5 +19,5 @@ returns-2 c = simp (← c .before .before .holds .ensures, c .before .if1 .taken
 returns-3 : tie.Need-returns-3
 returns-3 c = simp (← c .before .holds .ensures, c .if1 .left)
 
-pub speaks-for-spec : {M : Type 1} → statement M
-speaks-for-spec = tie.close (tie.spec cast-named holds-requires returns returns-2 returns-3)
+pub excepted-directive-spec : {M : Type 1} → statement M
+excepted-directive-spec = tie.close (tie.spec cast-named holds-requires returns returns-2 returns-3)

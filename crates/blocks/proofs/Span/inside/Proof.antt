@@ -1,7 +1,7 @@
 -- One test for each bound. Assumes nothing.
 use borrow.Author.Tests.{le-leb, lt-leb}
-use Rattle.blocks.proofs.Span.between.Statement.{statement}
-use Rattle.blocks.proofs.Span.between.Tie as tie
+use Rattle.blocks.proofs.Span.inside.Statement.{statement}
+use Rattle.blocks.proofs.Span.inside.Tie as tie
 
 returns : tie.Need-returns
 returns c = simp (le-leb _ _ (c .before .before .if1 .taken))
@@ -9,5 +9,5 @@ returns c = simp (le-leb _ _ (c .before .before .if1 .taken))
 returns-2 : tie.Need-returns-2
 returns-2 c = simp (lt-leb _ _ (c .if1 .left))
 
-pub between-spec : {M : Type 1} → statement M
-between-spec = tie.close (tie.spec returns returns-2)
+pub inside-spec : {M : Type 1} → statement M
+inside-spec = tie.close (tie.spec returns returns-2)

@@ -1,8 +1,8 @@
 -- One test for each bound. Assumes nothing.
 use borrow.Author.Tests.{le-leb, lt-leb}
 use Rattle.meaning.specs.Blocks.{within}
-use Rattle.blocks.proofs.Span.within.Statement.{statement}
-use Rattle.blocks.proofs.Span.within.Tie as tie
+use Rattle.blocks.proofs.Span.holds.Statement.{statement}
+use Rattle.blocks.proofs.Span.holds.Tie as tie
 
 returns : tie.Need-returns
 unfolding within
@@ -12,5 +12,5 @@ returns-2 : tie.Need-returns-2
 unfolding within
 returns-2 c = simp (lt-leb _ _ (c .if1 .left))
 
-pub within-spec : {M : Type 1} → statement M
-within-spec = tie.close (tie.spec returns returns-2)
+pub holds-spec : {M : Type 1} → statement M
+holds-spec = tie.close (tie.spec returns returns-2)

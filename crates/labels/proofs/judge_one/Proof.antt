@@ -5,10 +5,11 @@ use Rattle.meaning.specs.Labels.{judged}
 use Rattle.meaning.specs.Rules.{sameAction}
 use Rattle.sets.specs.Vocabulary.{actionOf}
 use Rattle.labels.specs.Answers.{decidedOf}
+use Rattle.labels.specs.Inner.{oneAsked}
 use Rattle.labels.specs.declared.Decided.{Decided}
-use Rattle.labels.proofs.Judging.{oneAsked, one-done, one-not-done}
-use Rattle.labels.proofs.met.Statement.{statement}
-use Rattle.labels.proofs.met.Tie as tie
+use Rattle.labels.proofs.Judging.{one-done, one-not-done}
+use Rattle.labels.proofs.judge_one.Statement.{statement}
+use Rattle.labels.proofs.judge_one.Tie as tie
 
 enum-known-decided : tie.Need-enum-known-decided
 enum-known-decided c = search needs
@@ -43,8 +44,8 @@ returns-4 : tie.Need-returns-4
 unfolding judged sameAction
 returns-4 c = simp (c .before .before .enum-told .given .1, c .enum-told3 .given .1)
 
-pub met-spec : {M : Type 1} → statement M
-met-spec =
+pub judge-one-spec : {M : Type 1} → statement M
+judge-one-spec =
     tie.close
     (tie.spec
     enum-known-decided
