@@ -1,5 +1,5 @@
-//! A second reading of the paper, kept apart from the library it is compared
-//! with. It writes test requests and tells the answers the paper gives to them.
+//! A second reading of document 01, kept apart from the library it is compared
+//! with. It writes test requests and tells the answers that document 01 gives.
 //!
 //!     oracle requests > requests.txt
 //!     oracle answers < requests.txt

@@ -1,5 +1,5 @@
 //! Packets, blocks, rules and policies, what is in form, and the label of a
-//! packet, each as the paper says it.
+//! packet, each as document 01 says it.
 
 pub const FIELDS: usize = 4;
 
@@ -199,13 +199,13 @@ impl RuleSet {
         refuse_unless(in_form, RULES)
     }
 
-    /// The number and action of the lowest-numbered rule that holds the packet,
-    /// by the records within the count, as far as there are records.
-    pub fn deciding(&self, packet: Packet) -> Option<(u32, Action)> {
+    /// The lowest-numbered rule that holds the packet, with its number, by the
+    /// records within the count, as far as there are records.
+    pub fn deciding(&self, packet: Packet) -> Option<(u32, Rule)> {
         (1..)
             .zip(self.records.iter().take(self.count as usize))
             .find(|(_, rule)| rule.block.holds(packet))
-            .map(|(number, rule)| (number, rule.action))
+            .map(|(number, rule)| (number, *rule))
     }
 }
 
@@ -335,7 +335,10 @@ pub fn label(rules: &RuleSet, policy: &PolicySet, packet: Packet) -> Result<Labe
     packet.form()?;
     let accept = policy.lowest_asking(Action::Accept, packet).is_some();
     let deny = policy.lowest_asking(Action::Deny, packet).is_some();
-    let (kind, rule) = match (accept, deny, rules.deciding(packet)) {
+    let deciding = rules
+        .deciding(packet)
+        .map(|(number, rule)| (number, rule.action));
+    let (kind, rule) = match (accept, deny, deciding) {
         (true, true, _) => (Kind::Conflict, 0),
         (true, false, Some((number, Action::Deny))) => (Kind::Wrong, number),
         (false, true, Some((number, Action::Accept))) => (Kind::Wrong, number),

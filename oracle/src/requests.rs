@@ -84,7 +84,7 @@ impl State {
             }
             'f' => self.form(packet(&numbers)),
             's' => {
-                let sets = self.rules.form().and_then(|()| self.policy.form());
+                let sets = self.rules.form().and(self.policy.form());
                 told("sets", &refusal(sets))
             }
             'l' => self.label(packet(&numbers)),
@@ -113,10 +113,16 @@ impl State {
         Ok(Some(answer))
     }
 
-    /// The refusals of the rules, the policy and the packet, each alone.
+    /// The refusals of the rules, the policy and the packet, each alone, then of
+    /// all together; and whether the packet is in form.
     fn form(&self, packet: Packet) -> String {
-        let forms = [self.rules.form(), self.policy.form(), packet.form()];
-        told("form", &forms.map(refusal).concat())
+        let (rules, policy) = (self.rules.form(), self.policy.form());
+        let all = rules.and(policy).and(packet.form());
+        let forms = [rules, policy, packet.form(), all].map(refusal).concat();
+        told(
+            "form",
+            &[forms, vec![u32::from(packet.form().is_ok())]].concat(),
+        )
     }
 
     fn label(&self, packet: Packet) -> String {
@@ -127,15 +133,15 @@ impl State {
         told("label", &numbers)
     }
 
-    /// The number and action of the deciding rule, and the lowest directives that
-    /// ask for accept and for deny; zeros where there are none.
+    /// The deciding rule with its number, and the lowest directives that ask for
+    /// accept and for deny; zeros where there are none.
     fn at(&self, packet: Packet) -> String {
-        let (rule, action) = self
-            .rules
-            .deciding(packet)
-            .map_or((0, 0), |(number, action)| (number, action as u32));
-        let asking = |action| self.policy.lowest_asking(action, packet).unwrap_or(0);
-        let numbers = [rule, action, asking(Action::Accept), asking(Action::Deny)];
+        let (number, rule) = self.rules.deciding(packet).unwrap_or((0, Rule::ZERO));
+        let mut numbers = vec![number, rule.action as u32];
+        numbers.extend(rule.block.numbers());
+        for action in [Action::Accept, Action::Deny] {
+            numbers.push(self.policy.lowest_asking(action, packet).unwrap_or(0));
+        }
         told("at", &numbers)
     }
 }
@@ -261,8 +267,8 @@ mod tests {
             c 0 1 5 9 6 6 8 7 1 2 3 4 5 6 7 8\n";
         let expected = "\
             widest 0 4294967295 0 4294967295 0 255 0 65535 lowest 0 0 0 0\n\
-            sets 14 1 0\nform 14 1 0 0 0 0 14 3 0\nlabel 14 1 0 0 0\nlabel 0 0 0 3 1\nat 1 1 0 0\n\
-            label 0 0 0 0 0\nat 1 1 1 0\nsets 0 0 0\nblock 1\nblock 0\nblock 0\n\
+            sets 14 1 0\nform 14 1 0 0 0 0 14 3 0 14 1 0 0\nlabel 14 1 0 0 0\nlabel 0 0 0 3 1\nat 1 1 0 9 0 9 0 9 0 9 0 0\n\
+            label 0 0 0 0 0\nat 1 1 0 9 0 9 0 9 0 9 1 0\nsets 0 0 0\nblock 1\nblock 0\nblock 0\n\
             holds 1\nholds 0\ninside 1\ninside 0\n\
             narrow 1 1 2 3 4 5 9 7 8\nnarrow 0 1 2 3 4 0 9 7 8\n\
             chain 1 0 1 0 1 1 3 4 6 6 7 8\n";

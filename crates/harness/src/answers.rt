@@ -6,6 +6,7 @@ use blocks::Span;
 use libc::STDOUT_FILENO;
 use sets::Action;
 use sets::Refusal;
+use sets::Rule;
 
 // More bytes than the longest answer has.
 const ROOM: usize = 256;
@@ -57,7 +58,7 @@ impl Answer {
     }
 
     // Adds 0 for deny, 1 for accept.
-    pub fn action(self, action: Action) -> Answer {
+    fn action(self, action: Action) -> Answer {
         match action {
             Action::Deny => self.number(0),
             Action::Accept => self.number(1),
@@ -75,6 +76,12 @@ impl Answer {
             .span(block.destination)
             .span(block.protocol)
             .span(block.port)
+    }
+
+    // Adds a rule's action and block.
+    pub fn rule(self, rule: Rule) -> Answer {
+        let action = rule.action;
+        self.action(action).block(rule.block)
     }
 
     // Adds a packet's four numbers.

@@ -31,14 +31,14 @@ pub fn change_policy(policy: Policy, request: Request) -> Policy {
 
 // `R count`: the empty rules with this count.
 fn new_rules(request: Request) -> Rules {
-    let mut rules = Rules::EMPTY;
+    let mut rules = Rules::empty();
     rules.count = request.number(0) as usize;
     rules
 }
 
 // `P directives exceptions`: the empty policy with these counts.
 fn new_policy(request: Request) -> Policy {
-    let mut policy = Policy::EMPTY;
+    let mut policy = Policy::empty();
     policy.directive_count = request.number(0) as usize;
     policy.exception_count = request.number(1) as usize;
     policy

@@ -1,6 +1,6 @@
 // A test harness that makes the library's calls reachable from outside. It reads requests from standard input, one a
-// line, makes the call that each asks for, and writes what the call gave to standard output. Of the input 262,144 bytes
-// are read. Beside this folder, `stdin` has requests and `stdout` the answers of an independent program to them, with
+// line, makes the call that each asks for, and writes what the call gave to standard output. It reads at most 262,144
+// bytes; what lies past them is not looked at. Beside this folder, `stdin` has requests and `stdout` the answers of an independent program to them, with
 // which a check compares what is answered here. The functions are proved safe and ending for every input, not more.
 
 mod answers;

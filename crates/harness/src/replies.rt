@@ -27,13 +27,16 @@ pub fn reply(rules: Rules, policy: Policy, request: Request) {
     }
 }
 
-// `f packet`: what is refused of the rules, the policy and the packet, each alone.
+// `f packet`: what is refused of the rules, the policy and the packet, each alone, then of all; and whether the packet is in
+// form.
 fn tell_form(rules: Rules, policy: Policy, request: Request) {
     let packet = request.packet(0);
     Answer::new(b"form")
         .refusal(sets::refuse_rules(rules))
         .refusal(sets::refuse_policy(policy))
         .refusal(sets::refuse_packet(packet))
+        .refusal(sets::refuse_label(rules, policy, packet))
+        .flag(packet.in_form())
         .send();
 }
 
@@ -55,16 +58,16 @@ fn tell_label(rules: Rules, policy: Policy, request: Request) {
         .send();
 }
 
-// `a packet`: the number and action of the deciding rule, and the lowest directives that ask for accept and for deny.
+// `a packet`: the deciding rule with its number, zeros if there is none, and the lowest directives that ask for accept and for
+// deny.
 fn tell_at(rules: Rules, policy: Policy, request: Request) {
     let packet = request.packet(0);
+    let empty = Rules::EMPTY;
+    let none = empty.records[0];
     let decided = labels::deciding(rules, packet);
     let answer = match decided {
-        Decided::By(number, rule) => {
-            let action = rule.action;
-            Answer::new(b"at").number(number).action(action)
-        }
-        Decided::Nothing => Answer::new(b"at").number(0).number(0),
+        Decided::By(number, rule) => Answer::new(b"at").number(number).rule(rule),
+        Decided::Nothing => Answer::new(b"at").number(0).rule(none),
     };
     answer
         .number(labels::lowest_asking(policy, Action::Accept, packet))
@@ -126,8 +129,8 @@ fn tell_chain(request: Request) {
 // `w`: the widest block and the lowest packet.
 fn tell_widest() {
     Answer::new(b"widest")
-        .block(Block::WIDEST)
+        .block(Block::widest())
         .word(b" lowest")
-        .packet(Packet::LOWEST)
+        .packet(Packet::lowest())
         .send();
 }

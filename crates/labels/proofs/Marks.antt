@@ -1,4 +1,4 @@
--- The marks of the directives that an exception speaks for, exception by exception. Assumes nothing.
+-- The marks of the directives from which an exception takes the packet, exception by exception. Assumes nothing.
 use mathlib.Core.Bool.{Bool, true, false, _&&_, _||_, cond, and-true, and-false, or-true, or-false, or-assoc}
 use mathlib.Core.List.{List, [], _∷_}
 use mathlib.Core.Path.{_≡_, refl, sym, ap, _∙_}
@@ -29,7 +29,7 @@ module _ (p : Packet) where
       by-test true = refl
       by-test false = refl
 
-  -- for a directive's number it comes to the same whether an exception names it and holds p, or speaks for it
+  -- for a directive's number it comes to the same: the exception names it and holds p, or it is the directive marked
   named-and-held : (n : ℕ) (e : Exception) → 1 ≤ n → n ≤ mostDirectives → (eqb (e .directive) n && holds (e .block) p) ≡ eqb (exceptedDirective p e) n
   named-and-held n e one most = by-tests (holds (e .block) p) (leb (e .directive) mostDirectives) refl
     where
@@ -58,7 +58,7 @@ module _ (p : Packet) where
         | no d ↦ getD-set-other marks k n true false d ∙ sym (ap (λ (b : Bool). getD marks n false || b) (ne-eqb k n (λ e. d (sym e))) ∙ or-false (getD marks n false))
       ]
 
-  -- the marks of the exceptions passed and those still to speak are together those of all
+  -- what is marked, and what those left are yet to mark, is together what all mark
   pub record Marked (all left : List Exception) (marks : List Bool) : Type 0 where
     pub full : length marks ≡ 33
     pub at : (n : ℕ) → 1 ≤ n → n ≤ mostDirectives → (getD marks n false || exceptedAmong n left) ≡ exceptedAmong n all

@@ -8,6 +8,8 @@
 -- "for all x", `(x : A) × B` "there is an x with B", `×` "and", `⊎` "or", `¬` "not", `≡` "equals"; a `data` relation holds just where
 -- one of its cases says so. Terms: `f x y` is f at x and y, `λ x. e` the function that takes x to e, `r .field` a field of a record,
 -- `.0` and `.1` the parts of a pair. What stands in braces, `Type`, and the marks `abbrev`, `unfoldable` and `pub` are for the prover.
+-- In the other crates: `«a_b»` is the name a_b, `replicate n x` is a list of n times x, and a contract in `src/` stands between ⌜ and ⌝,
+-- where r is the answer.
 pub mod Fields
 pub mod Blocks
 pub mod Records

@@ -1,5 +1,4 @@
-//! Both sides of every limit of refusal 14. Each case differs from one in form
-//! by a single thing.
+//! Both sides of every limit of refusal 14.
 
 use super::*;
 use crate::model::{Bounds, FIELDS, LARGEST};

@@ -1,4 +1,4 @@
-//! The twelve labels of the paper, over the sets of its one whole run.
+//! The twelve labels of document 01, over the sets of its one whole run.
 
 use super::{accept, ask_accept, ask_deny, deny, except, Script};
 use crate::model::{Block, Bounds, Packet, PolicySet, RuleSet};

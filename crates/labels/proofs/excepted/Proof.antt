@@ -1,4 +1,4 @@
--- The invariant: the marks, and what the exceptions from i on speak for, are together what all speak for. Assumes nothing.
+-- The invariant: what is marked, and what the exceptions from i on are yet to mark, is together what all mark. Assumes nothing.
 use mathlib.Core.Bool.{true}
 use mathlib.Core.List.{List}
 use mathlib.Core.Path.{subst, subst⁻¹, _≡_}
