@@ -46,7 +46,7 @@ emptyPolicy =
 abbrev pub zeroPast : {A : Type 0} → A → ℕ → List A → Type 0
 zeroPast zero count records = drop count records ≡ replicate (length records - count) zero
 
--- "Anything handed back with a count is zero past that count."
+-- "Anything handed back with a count is zero past that count"
 abbrev pub RulesZeroPast : Rules → Type 0
 RulesZeroPast s = zeroPast zeroRule (s .count) (s .records)
 
