@@ -1,11 +1,10 @@
--- For each public call: two answers that its contract allows are equal. `lowest_asking` gives its answer, so that `one-answer`
--- of `blocks` speaks of it. Assumes nothing.
+-- For each public call: its contract leaves one answer. Assumes nothing.
 use mathlib.Core.Path.{_≡_, refl}
 use Rattle.meaning.specs.Labels as labels
 use Rattle.meaning.specs.Records.{Found, nothing, found}
 use Rattle.meaning.specs.Rules as rules
 use Rattle.blocks.specs.declared.Packet.{Packet}
-use Rattle.blocks.proofs.OneAnswer.{one-standing, blockFrom}
+use Rattle.blocks.proofs.OneAnswer.{OneAnswer, one-answer, one-standing, blockFrom}
 use Rattle.sets.specs.declared.Action.the-variants.{Deny, Accept}
 use Rattle.sets.specs.declared.Action.{Action}
 use Rattle.sets.specs.declared.Label.the-variants.{Good, Conflict, Wrong, Unasked, UnmetAccept, UnmetDeny}
@@ -19,6 +18,9 @@ use Rattle.labels.specs.Answers.{decidedOf, LabelledAs}
 use Rattle.labels.specs.declared.Decided.the-variants as decided
 use Rattle.labels.specs.declared.Decided.{Decided}
 use Rattle.labels.specs.declared.Labelled.{Labelled}
+use Rattle.labels.proofs.deciding.Reads as deciding
+use Rattle.labels.proofs.label.Reads as label
+use Rattle.labels.proofs.lowest_asking.Reads as lowest-asking
 
 abbrev actionFrom : rules.Action → Action
 actionFrom rules.deny = Deny
@@ -52,11 +54,9 @@ label-back (Unasked n) = refl
 label-back UnmetAccept = refl
 label-back UnmetDeny = refl
 
--- `deciding`
 pub one-decided : (x : Found rules.Rule) (r s : Decided) → decidedOf r ≡ x → decidedOf s ≡ x → r ≡ s
 one-decided = one-standing decidedOf decidedFrom decided-back
 
--- `label`
 pub one-labelled : (rules : Rules) (policy : Policy) (packet : Packet) (r s : Labelled) → LabelledAs rules policy packet r → LabelledAs rules policy packet s → r ≡ s
 one-labelled rules policy packet r s a b =
     λ i.
@@ -64,3 +64,12 @@ one-labelled rules policy packet r s a b =
       refusal = one-refusal _ (r .refusal) (s .refusal) (a .refusal) (b .refusal) i;
       label = one-standing labelOf labelFrom label-back _ (r .label) (s .label) (a .label) (b .label) i;
     }
+
+pub label-once : OneAnswer (label.Post tt)
+label-once a r s after after' e f = one-labelled _ _ _ r s e f
+
+pub deciding-once : OneAnswer (deciding.Post tt)
+deciding-once a r s after after' e f = one-decided _ r s e f
+
+pub lowest-asking-once : OneAnswer (lowest-asking.Post tt)
+lowest-asking-once a r s after after' e f = one-answer _ r s e f

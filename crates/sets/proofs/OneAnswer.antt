@@ -1,13 +1,48 @@
--- For each public call: two answers that its contract allows are equal. `kind`, `rule` and the two `empty` give their answer,
--- so that `one-answer` of `blocks` speaks of them; the five refusals give what the answer stands for. Assumes nothing.
+-- For each public call: its contract leaves one answer. Assumes nothing.
 use mathlib.Core.Path.{_≡_, refl}
 use Rattle.meaning.specs.Form as form
-use Rattle.blocks.proofs.OneAnswer.{one-standing}
+use Rattle.blocks.proofs.OneAnswer.{OneAnswer, one-answer, one-standing}
 use Rattle.sets.specs.Vocabulary.{refusalOf}
 use Rattle.sets.specs.declared.Refusal.{Refusal}
+use Rattle.sets.proofs.Label.kind.Reads as label-kind
+use Rattle.sets.proofs.Label.rule.Reads as label-rule
+use Rattle.sets.proofs.Policy.empty.Reads as policy-empty
+use Rattle.sets.proofs.Rules.empty.Reads as rules-empty
+use Rattle.sets.proofs.refuse_label.Reads as refuse-label
+use Rattle.sets.proofs.refuse_packet.Reads as refuse-packet
+use Rattle.sets.proofs.refuse_policy.Reads as refuse-policy
+use Rattle.sets.proofs.refuse_rules.Reads as refuse-rules
+use Rattle.sets.proofs.refuse_sets.Reads as refuse-sets
 
 abbrev pub refusalFrom : form.Refusal → Refusal
 refusalFrom r = record { number = r .number; line = r .line; field = r .field }
 
 pub one-refusal : (x : form.Refusal) (r s : Refusal) → refusalOf r ≡ x → refusalOf s ≡ x → r ≡ s
 one-refusal = one-standing refusalOf refusalFrom (λ r. refl)
+
+pub rules-empty-once : OneAnswer (rules-empty.Post tt)
+rules-empty-once a r s after after' e f = one-answer _ r s e f
+
+pub policy-empty-once : OneAnswer (policy-empty.Post tt)
+policy-empty-once a r s after after' e f = one-answer _ r s e f
+
+pub label-kind-once : OneAnswer (label-kind.Post tt)
+label-kind-once a r s after after' e f = one-answer _ r s e f
+
+pub label-rule-once : OneAnswer (label-rule.Post tt)
+label-rule-once a r s after after' e f = one-answer _ r s e f
+
+pub refuse-rules-once : OneAnswer (refuse-rules.Post tt)
+refuse-rules-once a r s after after' e f = one-refusal _ r s e f
+
+pub refuse-policy-once : OneAnswer (refuse-policy.Post tt)
+refuse-policy-once a r s after after' e f = one-refusal _ r s e f
+
+pub refuse-packet-once : OneAnswer (refuse-packet.Post tt)
+refuse-packet-once a r s after after' e f = one-refusal _ r s e f
+
+pub refuse-sets-once : OneAnswer (refuse-sets.Post tt)
+refuse-sets-once a r s after after' e f = one-refusal _ r s e f
+
+pub refuse-label-once : OneAnswer (refuse-label.Post tt)
+refuse-label-once a r s after after' e f = one-refusal _ r s e f
