@@ -129,8 +129,8 @@ impl Block {
         }
     }
 
-    // The block with its sources narrowed to those that it shares with the bounds; the other fields stay. So for each
-    // field, and one narrowing may follow another: `b.narrow_source(s).block.narrow_port(p).block`.
+    // The block with its sources narrowed to those that it shares with the bounds; the other fields stay. One narrowing
+    // may follow another: `b.narrow_source(s).block.narrow_port(p).block`.
     pub fn narrow_source(self, bounds: Span) -> Narrowed
         ensures { λ r. ⌜ NarrowedIn 0 bounds self r ⌝ }
     {
@@ -144,6 +144,7 @@ impl Block {
         }
     }
 
+    // The same for its destinations.
     pub fn narrow_destination(self, bounds: Span) -> Narrowed
         ensures { λ r. ⌜ NarrowedIn 1 bounds self r ⌝ }
     {
@@ -157,6 +158,7 @@ impl Block {
         }
     }
 
+    // The same for its protocols.
     pub fn narrow_protocol(self, bounds: Span) -> Narrowed
         ensures { λ r. ⌜ NarrowedIn 2 bounds self r ⌝ }
     {
@@ -170,6 +172,7 @@ impl Block {
         }
     }
 
+    // The same for its ports.
     pub fn narrow_port(self, bounds: Span) -> Narrowed
         ensures { λ r. ⌜ NarrowedIn 3 bounds self r ⌝ }
     {

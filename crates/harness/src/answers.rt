@@ -12,14 +12,14 @@ use sets::Rule;
 const ROOM: usize = 256;
 
 // An answer as far as it is made: its bytes, and how many there are.
-pub struct Answer {
+pub(crate) struct Answer {
     bytes: [u8; ROOM],
     length: usize,
 }
 
 impl Answer {
     // The answer that begins with a word.
-    pub fn new(word: &[u8]) -> Answer {
+    pub(crate) fn new(word: &[u8]) -> Answer {
         let answer = Answer {
             bytes: [0u8; ROOM],
             length: 0,
@@ -38,7 +38,7 @@ impl Answer {
     }
 
     // Adds a word.
-    pub fn word(mut self, word: &[u8]) -> Answer {
+    pub(crate) fn word(mut self, word: &[u8]) -> Answer {
         for i in 0..word.len() {
             self = self.byte(word[i]);
         }
@@ -46,14 +46,14 @@ impl Answer {
     }
 
     // Adds a space and a number.
-    pub fn number(self, number: u32) -> Answer {
+    pub(crate) fn number(self, number: u32) -> Answer {
         let mut digits = [0u8; 20];
         let count = io::decimal(number as u64, &mut digits);
         self.byte(b' ').word(&digits[..count])
     }
 
     // Adds 1 for yes, 0 for no.
-    pub fn flag(self, flag: bool) -> Answer {
+    pub(crate) fn flag(self, flag: bool) -> Answer {
         if flag { self.number(1) } else { self.number(0) }
     }
 
@@ -66,12 +66,12 @@ impl Answer {
     }
 
     // Adds a span's two bounds.
-    pub fn span(self, span: Span) -> Answer {
+    pub(crate) fn span(self, span: Span) -> Answer {
         self.number(span.low).number(span.high)
     }
 
     // Adds a block's eight bounds.
-    pub fn block(self, block: Block) -> Answer {
+    pub(crate) fn block(self, block: Block) -> Answer {
         self.span(block.source)
             .span(block.destination)
             .span(block.protocol)
@@ -79,13 +79,13 @@ impl Answer {
     }
 
     // Adds a rule's action and block.
-    pub fn rule(self, rule: Rule) -> Answer {
+    pub(crate) fn rule(self, rule: Rule) -> Answer {
         let action = rule.action;
         self.action(action).block(rule.block)
     }
 
     // Adds a packet's four numbers.
-    pub fn packet(self, packet: Packet) -> Answer {
+    pub(crate) fn packet(self, packet: Packet) -> Answer {
         self.number(packet.source)
             .number(packet.destination)
             .number(packet.protocol)
@@ -93,14 +93,14 @@ impl Answer {
     }
 
     // Adds a refusal's number, line and field.
-    pub fn refusal(self, refusal: Refusal) -> Answer {
+    pub(crate) fn refusal(self, refusal: Refusal) -> Answer {
         self.number(refusal.number)
             .number(refusal.line)
             .number(refusal.field)
     }
 
     // Ends the line and writes it.
-    pub fn send(self) {
+    pub(crate) fn send(self) {
         let answer = self.byte(b'\n');
         let bytes = answer.bytes;
         write_first(&bytes, answer.length);

@@ -9,7 +9,7 @@ use sets::Rule;
 use sets::Rules;
 
 // The rules after a request; as they were if its letter changes no rules.
-pub fn change_rules(rules: Rules, request: Request) -> Rules {
+pub(crate) fn change_rules(rules: Rules, request: Request) -> Rules {
     let letter = request.letter;
     match letter {
         b'R' => new_rules(request),
@@ -19,7 +19,7 @@ pub fn change_rules(rules: Rules, request: Request) -> Rules {
 }
 
 // The policy after a request; as it was if its letter changes no policy.
-pub fn change_policy(policy: Policy, request: Request) -> Policy {
+pub(crate) fn change_policy(policy: Policy, request: Request) -> Policy {
     let letter = request.letter;
     match letter {
         b'P' => new_policy(request),

@@ -10,7 +10,7 @@ use sets::Policy;
 use sets::Rules;
 
 // Answers a request; does nothing if its letter is none of these.
-pub fn reply(rules: Rules, policy: Policy, request: Request) {
+pub(crate) fn reply(rules: Rules, policy: Policy, request: Request) {
     let letter = request.letter;
     match letter {
         b'f' => tell_form(rules, policy, request),

@@ -9,14 +9,14 @@ ghost use Prim.Native.Nat.{_≤_, _<_};
 const MOST_NUMBERS: usize = 16;
 
 // A request's letter, 0 if its line is empty, and its numbers, 0 where they are lacking.
-pub struct Request {
-    pub letter: u8,
+pub(crate) struct Request {
+    pub(crate) letter: u8,
     numbers: [u32; MOST_NUMBERS],
 }
 
 impl Request {
     // The request on a line: its first byte, and the numbers from its third byte on, the first 16 of them.
-    pub fn read(line: &[u8]) -> Request {
+    pub(crate) fn read(line: &[u8]) -> Request {
         let mut request = Request {
             letter: 0,
             numbers: [0u32; MOST_NUMBERS],
@@ -40,14 +40,14 @@ impl Request {
     }
 
     // The number at a place, counted from 0.
-    pub fn number(self, place: usize) -> u32
+    pub(crate) fn number(self, place: usize) -> u32
         requires { ⌜ place < 16 ⌝ }
     {
         self.numbers[place]
     }
 
     // The span whose bounds stand from a place on.
-    pub fn span(self, place: usize) -> Span
+    pub(crate) fn span(self, place: usize) -> Span
         requires { ⌜ place < 15 ⌝ }
     {
         Span {
@@ -57,7 +57,7 @@ impl Request {
     }
 
     // The block whose bounds stand from a place on.
-    pub fn block(self, place: usize) -> Block
+    pub(crate) fn block(self, place: usize) -> Block
         requires { ⌜ place ≤ 8 ⌝ }
     {
         Block {
@@ -69,7 +69,7 @@ impl Request {
     }
 
     // The packet whose numbers stand from a place on.
-    pub fn packet(self, place: usize) -> Packet
+    pub(crate) fn packet(self, place: usize) -> Packet
         requires { ⌜ place ≤ 12 ⌝ }
     {
         Packet {

@@ -7,11 +7,11 @@ use lib.ListN.{length, drop, getD}
 use Rattle.meaning.specs.Fields.{fields}
 use Rattle.meaning.specs.Form.{exceptionsInForm}
 use Rattle.meaning.specs.Records.{numbered}
-use Rattle.sets.specs.Empty.{zeroDirective, zeroException}
+use Rattle.sets.specs.Empty.{zeroException}
 use Rattle.sets.specs.Inner.{directivesOf, exceptionsOf}
 use Rattle.sets.specs.Vocabulary.{directiveOf, exceptionOf}
 use Rattle.sets.proofs.Exceptions.{naming-none, in-form-beside, out-of-form-beside}
-use Rattle.sets.proofs.Walks.{over, at-number, past-number, length-of-map}
+use Rattle.sets.proofs.Walks.{over, past-number, length-of-map}
 use Rattle.sets.proofs.exceptions_in_form.Statement.{statement}
 use Rattle.sets.proofs.exceptions_in_form.Tie as tie
 
@@ -71,20 +71,16 @@ loop-less c = search needs
 loop-again : tie.Need-loop-again Inv-loop μ-loop
 loop-again c =
     let policy = c .before .before .before .before .before .before .before .before .before .args .t1 in
-    let exception = getD (policy .exceptions) (c .before .before .before .before .before .before .before .before .loop .i) zeroException in
     let full : length (policy .exceptions) ≡ 64 = search (needs, length-of-map) in
     let all : length (policy .directives) ≡ 32 = search (needs, length-of-map) in
-    let named = at-number directiveOf (policy .directives) (policy .«directive_count») (exception .directive) zeroDirective (omega arith) (omega arith) (omega arith) in
-    c .before .before .before .before .before .before .before .before .loop .inv ∙ in-form-beside policy (c .before .before .before .before .before .before .before .before .loop .i) (c .before .before .before .before .before .before .before .before .loop .before) (omega arith) (omega arith) _ named (sym (c .before .exception-in-form .ensures) ∙ c .if3 .taken)
+    c .before .before .before .before .before .before .before .before .loop .inv ∙ in-form-beside policy (c .before .before .before .before .before .before .before .before .loop .i) (c .before .before .before .before .before .before .before .before .loop .before) (omega arith) (omega arith) (omega arith) (omega arith) (omega arith) (sym (c .before .exception-in-form .ensures) ∙ c .if3 .taken)
 
 returns-3 : tie.Need-returns-3 Inv-loop μ-loop
 returns-3 c =
     let policy = c .before .before .before .before .before .before .before .before .before .args .t1 in
-    let exception = getD (policy .exceptions) (c .before .before .before .before .before .before .before .before .loop .i) zeroException in
     let full : length (policy .exceptions) ≡ 64 = search (needs, length-of-map) in
     let all : length (policy .directives) ≡ 32 = search (needs, length-of-map) in
-    let named = at-number directiveOf (policy .directives) (policy .«directive_count») (exception .directive) zeroDirective (omega arith) (omega arith) (omega arith) in
-    sym (c .before .before .before .before .before .before .before .before .loop .inv ∙ out-of-form-beside policy (c .before .before .before .before .before .before .before .before .loop .i) (c .before .before .before .before .before .before .before .before .loop .before) (omega arith) (omega arith) _ named (sym (c .before .exception-in-form .ensures) ∙ c .if3 .left))
+    sym (c .before .before .before .before .before .before .before .before .loop .inv ∙ out-of-form-beside policy (c .before .before .before .before .before .before .before .before .loop .i) (c .before .before .before .before .before .before .before .before .loop .before) (omega arith) (omega arith) (omega arith) (omega arith) (omega arith) (sym (c .before .exception-in-form .ensures) ∙ c .if3 .left))
 
 returns-4 : tie.Need-returns-4 Inv-loop μ-loop
 unfolding exceptionsInForm
