@@ -19,6 +19,8 @@ pub fn requests() -> String {
     let mut random = Random::new(SEED);
     script.group("the widest block and the lowest packet");
     script.request('w', &[]);
+    script.group("the empty sets, before any request changes them");
+    script.form_and_label(Packet::LOWEST);
     twelve::write(&mut script);
     limits::write(&mut script);
     labels::write(&mut script, &mut random);
