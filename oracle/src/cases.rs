@@ -3,6 +3,7 @@
 mod blocks;
 pub mod labels;
 mod limits;
+pub mod texts;
 mod twelve;
 
 use crate::model::{

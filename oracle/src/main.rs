@@ -3,11 +3,17 @@
 //!
 //!     oracle requests > requests.txt
 //!     oracle answers < requests.txt
+//!
+//! The same for the two texts, whose requests are not lines of text but bytes:
+//!
+//!     oracle texts-requests > requests.bytes
+//!     oracle texts-answers < requests.bytes
 
 mod cases;
 mod model;
 mod random;
 mod requests;
+mod texts;
 
 use std::io::{self, Read, Write};
 use std::process::ExitCode;
@@ -16,10 +22,12 @@ fn main() -> ExitCode {
     let words: Vec<String> = std::env::args().skip(1).collect();
     let words: Vec<&str> = words.iter().map(String::as_str).collect();
     let done = match words[..] {
-        ["requests"] => tell(&cases::requests()),
+        ["requests"] => tell(cases::requests().as_bytes()),
         ["answers"] => answer(),
+        ["texts-requests"] => tell(&cases::texts::requests()),
+        ["texts-answers"] => answer_texts(),
         _ => {
-            eprintln!("usage: oracle requests | oracle answers");
+            eprintln!("usage: oracle requests | answers | texts-requests | texts-answers");
             return ExitCode::from(2);
         }
     };
@@ -35,9 +43,15 @@ fn main() -> ExitCode {
 fn answer() -> io::Result<()> {
     let mut text = String::new();
     io::stdin().read_to_string(&mut text)?;
-    tell(&requests::answers(&text))
+    tell(requests::answers(&text).as_bytes())
 }
 
-fn tell(text: &str) -> io::Result<()> {
-    io::stdout().write_all(text.as_bytes())
+fn answer_texts() -> io::Result<()> {
+    let mut bytes = vec![];
+    io::stdin().read_to_end(&mut bytes)?;
+    tell(&texts::requests::answers(&bytes))
+}
+
+fn tell(answers: &[u8]) -> io::Result<()> {
+    io::stdout().write_all(answers)
 }

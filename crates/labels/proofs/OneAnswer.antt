@@ -4,7 +4,9 @@ use Rattle.meaning.specs.Labels as labels
 use Rattle.meaning.specs.Records.{Found, nothing, found}
 use Rattle.meaning.specs.Rules as rules
 use Rattle.blocks.specs.declared.Packet.{Packet}
-use Rattle.blocks.proofs.OneAnswer.{OneAnswer, one-answer, one-standing, blockFrom}
+use Rattle.contracts.specs.Answers.{OneAnswer}
+use Rattle.contracts.proofs.Answering.{one-answer, one-standing}
+use Rattle.blocks.proofs.OneAnswer.{blockFrom}
 use Rattle.sets.specs.declared.Action.the-variants.{Deny, Accept}
 use Rattle.sets.specs.declared.Action.{Action}
 use Rattle.sets.specs.declared.Label.the-variants.{Good, Conflict, Wrong, Unasked, UnmetAccept, UnmetDeny}
@@ -65,11 +67,11 @@ one-labelled rules policy packet r s a b =
       label = one-standing labelOf labelFrom label-back _ (r .label) (s .label) (a .label) (b .label) i;
     }
 
-pub label-once : OneAnswer (label.Post tt)
-label-once a r s after after' e f = one-labelled _ _ _ r s e f
+pub label-once : OneAnswer (label.Post)
+label-once κs a r s after after' e f = one-labelled _ _ _ r s e f
 
-pub deciding-once : OneAnswer (deciding.Post tt)
-deciding-once a r s after after' e f = one-decided _ r s e f
+pub deciding-once : OneAnswer (deciding.Post)
+deciding-once κs a r s after after' e f = one-decided _ r s e f
 
-pub lowest-asking-once : OneAnswer (lowest-asking.Post tt)
-lowest-asking-once a r s after after' e f = one-answer _ r s e f
+pub lowest-asking-once : OneAnswer (lowest-asking.Post)
+lowest-asking-once κs a r s after after' e f = one-answer _ r s e f

@@ -7,6 +7,7 @@ pub mod BlockHolding
 pub mod BlockNarrowing
 pub mod PolicyAsking
 pub mod FormLaws
+pub mod FormGrowing
 pub mod LabelKinds
 pub mod LabelCases
 pub mod Conforming

@@ -3,3 +3,4 @@ mod Exceptions
 mod Orders
 pub mod OneAnswer
 pub mod EmptySets
+pub mod Padding

@@ -1,7 +1,8 @@
 -- For each public call: its contract leaves one answer. Assumes nothing.
 use mathlib.Core.Path.{_≡_, refl}
 use Rattle.meaning.specs.Form as form
-use Rattle.blocks.proofs.OneAnswer.{OneAnswer, one-answer, one-standing}
+use Rattle.contracts.specs.Answers.{OneAnswer}
+use Rattle.contracts.proofs.Answering.{one-answer, one-standing}
 use Rattle.sets.specs.Vocabulary.{refusalOf}
 use Rattle.sets.specs.declared.Refusal.{Refusal}
 use Rattle.sets.proofs.Label.kind.Reads as label-kind
@@ -20,29 +21,29 @@ refusalFrom r = record { number = r .number; line = r .line; field = r .field }
 pub one-refusal : (x : form.Refusal) (r s : Refusal) → refusalOf r ≡ x → refusalOf s ≡ x → r ≡ s
 one-refusal = one-standing refusalOf refusalFrom (λ r. refl)
 
-pub rules-empty-once : OneAnswer (rules-empty.Post tt)
-rules-empty-once a r s after after' e f = one-answer _ r s e f
+pub rules-empty-once : OneAnswer (rules-empty.Post)
+rules-empty-once κs a r s after after' e f = one-answer _ r s e f
 
-pub policy-empty-once : OneAnswer (policy-empty.Post tt)
-policy-empty-once a r s after after' e f = one-answer _ r s e f
+pub policy-empty-once : OneAnswer (policy-empty.Post)
+policy-empty-once κs a r s after after' e f = one-answer _ r s e f
 
-pub label-kind-once : OneAnswer (label-kind.Post tt)
-label-kind-once a r s after after' e f = one-answer _ r s e f
+pub label-kind-once : OneAnswer (label-kind.Post)
+label-kind-once κs a r s after after' e f = one-answer _ r s e f
 
-pub label-rule-once : OneAnswer (label-rule.Post tt)
-label-rule-once a r s after after' e f = one-answer _ r s e f
+pub label-rule-once : OneAnswer (label-rule.Post)
+label-rule-once κs a r s after after' e f = one-answer _ r s e f
 
-pub refuse-rules-once : OneAnswer (refuse-rules.Post tt)
-refuse-rules-once a r s after after' e f = one-refusal _ r s e f
+pub refuse-rules-once : OneAnswer (refuse-rules.Post)
+refuse-rules-once κs a r s after after' e f = one-refusal _ r s e f
 
-pub refuse-policy-once : OneAnswer (refuse-policy.Post tt)
-refuse-policy-once a r s after after' e f = one-refusal _ r s e f
+pub refuse-policy-once : OneAnswer (refuse-policy.Post)
+refuse-policy-once κs a r s after after' e f = one-refusal _ r s e f
 
-pub refuse-packet-once : OneAnswer (refuse-packet.Post tt)
-refuse-packet-once a r s after after' e f = one-refusal _ r s e f
+pub refuse-packet-once : OneAnswer (refuse-packet.Post)
+refuse-packet-once κs a r s after after' e f = one-refusal _ r s e f
 
-pub refuse-sets-once : OneAnswer (refuse-sets.Post tt)
-refuse-sets-once a r s after after' e f = one-refusal _ r s e f
+pub refuse-sets-once : OneAnswer (refuse-sets.Post)
+refuse-sets-once κs a r s after after' e f = one-refusal _ r s e f
 
-pub refuse-label-once : OneAnswer (refuse-label.Post tt)
-refuse-label-once a r s after after' e f = one-refusal _ r s e f
+pub refuse-label-once : OneAnswer (refuse-label.Post)
+refuse-label-once κs a r s after after' e f = one-refusal _ r s e f

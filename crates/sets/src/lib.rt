@@ -80,7 +80,8 @@ pub struct Refusal {
     pub field: u32,
 }
 
-const ZERO: Block = Block {
+// The block of a zero record.
+pub const ZERO_BLOCK: Block = Block {
     source: Span { low: 0, high: 0 },
     destination: Span { low: 0, high: 0 },
     protocol: Span { low: 0, high: 0 },
@@ -93,7 +94,7 @@ impl Rules {
         count: 0,
         records: [Rule {
             action: Action::Deny,
-            block: ZERO,
+            block: ZERO_BLOCK,
         }; MOST_RULES],
     };
 
@@ -111,12 +112,12 @@ impl Policy {
         directive_count: 0,
         directives: [Directive {
             action: Action::Deny,
-            block: ZERO,
+            block: ZERO_BLOCK,
         }; MOST_DIRECTIVES],
         exception_count: 0,
         exceptions: [Exception {
             directive: 0,
-            block: ZERO,
+            block: ZERO_BLOCK,
         }; MOST_EXCEPTIONS],
     };
 

@@ -22,12 +22,12 @@ pub fn write(script: &mut Script, random: &mut Random) {
 fn blocks_in_form(script: &mut Script, random: &mut Random) {
     script.group("block: the widest, and each bound moved past the other or past the largest");
     script.request('b', &[&Block::WIDEST.numbers()]);
-    for field in 0..FIELDS {
+    for (field, largest) in LARGEST.into_iter().enumerate() {
         for bounds in [
-            Bounds::new(LARGEST[field], LARGEST[field]),
+            Bounds::new(largest, largest),
             Bounds::new(1, 0),
-            Bounds::new(0, LARGEST[field].saturating_add(1)),
-            Bounds::new(LARGEST[field], u32::MAX),
+            Bounds::new(0, largest.saturating_add(1)),
+            Bounds::new(largest, u32::MAX),
         ] {
             let mut block = Block::WIDEST;
             block.0[field] = bounds;

@@ -1,0 +1,5 @@
+pub mod Tables
+pub mod Masks
+pub mod Addressing
+pub mod Document
+pub mod OneAnswer

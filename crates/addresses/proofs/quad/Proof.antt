@@ -1,0 +1,133 @@
+-- The four numbers in their order; each that reads is at most 255. Assumes nothing.
+use mathlib.Core.Path.{sym, ap, _∙_}
+use borrow.Author.Needs.{needs}
+use borrow.Author.Tests.{eq-eqb, ne-eqb}
+use Rattle.numbers.proofs.Reckoning.{decimal-le}
+use Rattle.numbers.specs.declared.Number.the-variants.{Is}
+use Rattle.parts.specs.Parts.{part}
+use Rattle.parts.specs.Words.{dot}
+use Rattle.addresses.specs.Addresses.{quadOf}
+use Rattle.addresses.proofs.quad.Statement.{statement}
+use Rattle.addresses.proofs.quad.Tie as tie
+
+count-requires : tie.Need-count-requires
+count-requires c κs = search needs
+
+decimal-part-requires : tie.Need-decimal-part-requires
+decimal-part-requires c κs = search needs
+
+enum-known-a : tie.Need-enum-known-a
+enum-known-a c = search needs
+
+enum-told : tie.Need-enum-told
+enum-told c = search needs
+
+returns : tie.Need-returns
+unfolding quadOf
+returns c = simp (eq-eqb _ 4 (sym (c .before .before .before .before .count .ensures) ∙ c .before .before .before .if1 .taken), sym (c .before .before .decimal-part .ensures) ∙ c .enum-told .given .1)
+
+decimal-part-requires-2 : tie.Need-decimal-part-requires-2
+decimal-part-requires-2 c κs = search needs
+
+enum-known-b : tie.Need-enum-known-b
+enum-known-b c = search needs
+
+enum-told-2 : tie.Need-enum-told-2
+enum-told-2 c = search needs
+
+returns-2 : tie.Need-returns-2
+unfolding quadOf
+returns-2 c =
+    simp (
+      eq-eqb _ 4 (sym (c .before .before .before .before .before .before .before .before .count .ensures) ∙ c .before .before .before .before .before .before .before .if1 .taken),
+      sym (c .before .before .before .before .before .before .decimal-part .ensures) ∙ c .before .before .before .before .a .given .1,
+      sym (c .before .before .decimal-part2 .ensures) ∙ c .enum-told2 .given .1,
+    )
+
+decimal-part-requires-3 : tie.Need-decimal-part-requires-3
+decimal-part-requires-3 c κs = search needs
+
+enum-known-c : tie.Need-enum-known-c
+enum-known-c c = search needs
+
+enum-told-3 : tie.Need-enum-told-3
+enum-told-3 c = search needs
+
+returns-3 : tie.Need-returns-3
+unfolding quadOf
+returns-3 c =
+    simp (
+      eq-eqb _ 4 (sym (c .before .before .before .before .before .before .before .before .before .before .before .before .count .ensures) ∙ c .before .before .before .before .before .before .before .before .before .before .before .if1 .taken),
+      sym (c .before .before .before .before .before .before .before .before .before .before .decimal-part .ensures) ∙ c .before .before .before .before .before .before .before .before .a .given .1,
+      sym (c .before .before .before .before .before .before .decimal-part2 .ensures) ∙ c .before .before .before .before .b .given .1,
+      sym (c .before .before .decimal-part3 .ensures) ∙ c .enum-told3 .given .1,
+    )
+
+decimal-part-requires-4 : tie.Need-decimal-part-requires-4
+decimal-part-requires-4 c κs = search needs
+
+enum-known-d : tie.Need-enum-known-d
+enum-known-d c = search needs
+
+enum-told-4 : tie.Need-enum-told-4
+enum-told-4 c = search needs
+
+returns-4 : tie.Need-returns-4
+unfolding quadOf
+returns-4 c =
+    simp (
+      eq-eqb _ 4 (sym (c .before .before .before .before .before .before .before .before .before .before .before .before .before .before .before .before .count .ensures) ∙ c .before .before .before .before .before .before .before .before .before .before .before .before .before .before .before .if1 .taken),
+      sym (c .before .before .before .before .before .before .before .before .before .before .before .before .before .before .decimal-part .ensures) ∙ c .before .before .before .before .before .before .before .before .before .before .before .before .a .given .1,
+      sym (c .before .before .before .before .before .before .before .before .before .before .decimal-part2 .ensures) ∙ c .before .before .before .before .before .before .before .before .b .given .1,
+      sym (c .before .before .before .before .before .before .decimal-part3 .ensures) ∙ c .before .before .before .before .c .given .1,
+      sym (c .before .before .decimal-part4 .ensures) ∙ c .enum-told4 .given .1,
+    )
+
+join-requires : tie.Need-join-requires
+join-requires c κs =
+    let text = c .before .before .before .before .before .before .before .before .before .before .before .before .before .before .before .before .before .before .before .args .text .now in (
+      decimal-le 255 (part dot text 0) _ (sym (c .before .before .before .before .before .before .before .before .before .before .before .before .before .before .before .decimal-part .ensures) ∙ c .before .before .before .before .before .before .before .before .before .before .before .before .before .a .given .1),
+      decimal-le 255 (part dot text 1) _ (sym (c .before .before .before .before .before .before .before .before .before .before .before .decimal-part2 .ensures) ∙ c .before .before .before .before .before .before .before .before .before .b .given .1),
+      decimal-le 255 (part dot text 2) _ (sym (c .before .before .before .before .before .before .before .decimal-part3 .ensures) ∙ c .before .before .before .before .before .c .given .1),
+      decimal-le 255 (part dot text 3) _ (sym (c .before .before .before .decimal-part4 .ensures) ∙ c .before .d .given .1),
+    )
+
+returns-5 : tie.Need-returns-5
+unfolding quadOf
+returns-5 c =
+    simp (
+      eq-eqb _ 4 (sym (c .before .before .before .before .before .before .before .before .before .before .before .before .before .before .before .before .before .before .count .ensures) ∙ c .before .before .before .before .before .before .before .before .before .before .before .before .before .before .before .before .before .if1 .taken),
+      sym (c .before .before .before .before .before .before .before .before .before .before .before .before .before .before .before .before .decimal-part .ensures) ∙ c .before .before .before .before .before .before .before .before .before .before .before .before .before .before .a .given .1,
+      sym (c .before .before .before .before .before .before .before .before .before .before .before .before .decimal-part2 .ensures) ∙ c .before .before .before .before .before .before .before .before .before .before .b .given .1,
+      sym (c .before .before .before .before .before .before .before .before .decimal-part3 .ensures) ∙ c .before .before .before .before .before .before .c .given .1,
+      sym (c .before .before .before .before .decimal-part4 .ensures) ∙ c .before .before .d .given .1,
+    ) (ap Is (c .join .ensures))
+
+returns-6 : tie.Need-returns-6
+unfolding quadOf
+returns-6 c = simp (ne-eqb _ 4 (λ e. c .if1 .left (c .before .count .ensures ∙ e)))
+
+pub quad-spec : {M : Type 1} → statement M
+quad-spec =
+    tie.close
+    (tie.spec
+    count-requires
+    decimal-part-requires
+    enum-known-a
+    enum-told
+    returns
+    decimal-part-requires-2
+    enum-known-b
+    enum-told-2
+    returns-2
+    decimal-part-requires-3
+    enum-known-c
+    enum-told-3
+    returns-3
+    decimal-part-requires-4
+    enum-known-d
+    enum-told-4
+    returns-4
+    join-requires
+    returns-5
+    returns-6)

@@ -1,0 +1,3 @@
+mod Holding
+pub mod Stepping
+pub mod OneAnswer

@@ -1,0 +1,104 @@
+// Reading a text line by line. What reading carries along is the text, the next place and the number of the line there: first as
+// a cursor beside the text, by value, then as a reader that holds the lent text itself. The functions on a reader take it apart
+// and call the covered ones; `line_at` and `after` make one of plain parameters, and are what everybody else calls. A line is
+// handed back as a part of the caller's text, its address promised too. Every call answers for every place and number.
+
+ghost use mathlib.Core.Path.{_≡_};
+ghost use Rattle.contracts.specs.Answers.{seen};
+ghost use Rattle.parts.specs.Parts.{shown};
+ghost use Rattle.lines.specs.Reader.{lineFrom, placeAfter, lineAfter, cursorAfter, startOf, afterOf};
+
+// The byte that ends a line.
+pub const NEWLINE: u8 = 10;
+
+// Where reading stands in a text: the next place, and the number of the line there.
+pub struct Cursor {
+    pub at: usize,
+    pub line: u32,
+}
+
+// A reader: the lent text, the next place, and the number of the line there.
+pub struct Lines<'a> {
+    pub text: &'a [u8],
+    pub at: usize,
+    pub line: u32,
+}
+
+// The line from a place on, as a part of the text and without its byte 10; past the end, the empty part there.
+fn line_from(text: &[u8], at: usize) -> &[u8]
+    ensures { λ r. ⌜ seen r ≡ shown (text .entry) (lineFrom (now (text .entry)) at) ⌝ }
+{
+    let end = text.len();
+    if at <= end {
+        return parts::part(&text[at..end], NEWLINE, 0);
+    }
+    &text[end..end]
+}
+
+// The place behind that line.
+fn place_after(text: &[u8], at: usize) -> usize
+    ensures { λ r. ⌜ r ≡ placeAfter (now (text .entry)) at ⌝ }
+{
+    let line = line_from(text, at);
+    let end = text.len();
+    if at <= end {
+        return at + line.len() + 1;
+    }
+    end + 1
+}
+
+// The next line's number, as far as 32 bits hold it.
+fn line_after(line: u32) -> u32
+    ensures { λ r. ⌜ r ≡ lineAfter line ⌝ }
+{
+    if line < 4294967295 { line + 1 } else { line }
+}
+
+// The reader at a text's first line.
+pub fn start<'a>(text: &'a [u8]) -> Lines<'a>
+    ensures { λ r. ⌜ r ≡ startOf (text .entry) ⌝ }
+{
+    Lines {
+        text,
+        at: 0,
+        line: 1,
+    }
+}
+
+// The line at a reader, as a part of the text.
+pub fn current<'a>(reader: Lines<'a>) -> &'a [u8]
+    ensures { λ r. ⌜ seen r ≡ shown (reader .entry .text) (lineFrom (now (reader .entry .text)) (reader .entry .at)) ⌝ }
+{
+    line_from(reader.text, reader.at)
+}
+
+// The reader behind its line.
+pub fn next<'a>(reader: Lines<'a>) -> Lines<'a>
+    ensures { λ r. ⌜ r ≡ afterOf (reader .entry) ⌝ }
+{
+    let at = place_after(reader.text, reader.at);
+    let line = line_after(reader.line);
+    Lines {
+        text: reader.text,
+        at,
+        line,
+    }
+}
+
+// The line at a cursor, as a part of the text.
+pub fn line_at(text: &[u8], at: usize, line: u32) -> &[u8]
+    ensures { λ r. ⌜ seen r ≡ shown (text .entry) (lineFrom (now (text .entry)) at) ⌝ }
+{
+    current(Lines { text, at, line })
+}
+
+// The cursor behind the line at a cursor.
+pub fn after(text: &[u8], at: usize, line: u32) -> Cursor
+    ensures { λ r. ⌜ r ≡ cursorAfter (now (text .entry)) (record { at = at; line = line }) ⌝ }
+{
+    let reader = next(Lines { text, at, line });
+    Cursor {
+        at: reader.at,
+        line: reader.line,
+    }
+}

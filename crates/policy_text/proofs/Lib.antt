@@ -1,0 +1,4 @@
+pub mod PolicyReading
+pub mod Formed
+pub mod Document
+pub mod OneAnswer

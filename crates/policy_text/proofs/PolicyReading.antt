@@ -1,0 +1,190 @@
+-- Laws of the lines of a policy, and of the loop over them. Assumes nothing.
+use mathlib.Core.Bool.{Bool, true, false, cond, not}
+use mathlib.Core.List.{List, [], _∷_, _++_}
+use mathlib.Core.Path.{_≡_, refl, ap, sym, subst, _∙_}
+use native.Mathlib.Omega.{arith}
+use Prim.Native.Nat.{ℕ, _≤_, _<_}
+use borrow.Author.Tests.{leb-false, eqb-false}
+use lib.Dec.{eqb, leb}
+use lib.ListN.{length, length-append}
+use Rattle.meaning.specs.Blocks.{inside}
+use Rattle.meaning.specs.Form.{mostDirectives, mostExceptions}
+use Rattle.parts.specs.Fields.{fieldCount}
+use Rattle.parts.specs.Words.{bytes}
+use Rattle.blocks.specs.Vocabulary.{blockOf}
+use Rattle.blocks.specs.declared.Block.{Block}
+use Rattle.sets.specs.Empty.{zeroBlock, zeroDirective, zeroException}
+use Rattle.sets.specs.Listed.{padded, policySet}
+use Rattle.sets.specs.declared.Directive.{Directive}
+use Rattle.sets.specs.declared.Policy.{Policy}
+use Rattle.sets.proofs.Padding.{padded-set}
+use Rattle.lines.specs.Reader.{cursorAfter}
+use Rattle.lines.specs.declared.Cursor.{Cursor}
+use Rattle.lines.proofs.Stepping.{cursor-after}
+use Rattle.texts.specs.Texts.{mostBytes, refusal, linesOf, Said, goes, stops, readFrom}
+use Rattle.texts.proofs.Reading.{Reading, lineAt, begun, turned, halted, finished}
+use Rattle.records.specs.Records.{skipped, named, readAction, onAction, readBlock, onBlock}
+use Rattle.records.specs.declared.ActionRead.the-variants as action
+use Rattle.records.specs.declared.ActionRead.{ActionRead}
+use Rattle.records.specs.declared.BlockRead.the-variants as block
+use Rattle.records.specs.declared.BlockRead.{BlockRead}
+use Rattle.policy_text.specs.Inner.{askAdded, butAdded}
+use Rattle.policy_text.specs.PolicyTexts.{askFields, butFields, askLine, butLine, policyLine, Asked, nothingAsked, nearest, ask, but, onPolicyLine, saidPolicy, allAsked, noneAsked}
+use Rattle.policy_text.specs.declared.PolicyLine.the-variants.{Skipped, Ask, But, Not}
+use Rattle.policy_text.specs.declared.PolicyLine.{PolicyLine}
+
+-- a directive or an exception is read only where there is room for it, and an exception only below a directive
+abbrev pub Room : ℕ → ℕ → PolicyLine → Type 0
+Room asked excepted Skipped = Unit {0}
+Room asked excepted (Ask d) = asked < mostDirectives
+Room asked excepted (But b) = (0 < asked) × (excepted < mostExceptions)
+Room asked excepted (Not number field) = Unit {0}
+
+module _ (asked excepted : ℕ) (above : Block) (line : List ℕ) where
+  ask-room : Room asked excepted (askLine asked line)
+  unfolding askLine askFields
+  ask-room = go (not (eqb (fieldCount line) 6)) (leb mostDirectives asked) refl (readAction line) (readBlock line 3)
+    where
+      go : (a b : Bool) → leb mostDirectives asked ≡ b → (x : ActionRead) (y : BlockRead)
+          → Room asked excepted (cond a (Not 4 0) (cond b (Not 13 0) (onAction x (Not 5 2) (λ e. onBlock y Not (λ d. Ask (record { action = e; block = d }))))))
+      go true b h x y = tt
+      go false true h x y = tt
+      go false false h action.Unread y = tt
+      go false false h (action.Is e) (block.Not number field) = tt
+      go false false h (action.Is e) (block.Is d) = leb-false mostDirectives asked h
+
+  but-room : Room asked excepted (butLine asked excepted above line)
+  unfolding butLine butFields
+  but-room = go (not (eqb (fieldCount line) 5)) (eqb asked 0) refl (leb mostExceptions excepted) refl (readBlock line 2)
+    where
+      within : (d : Block) (b : Bool) → eqb asked 0 ≡ false → excepted < mostExceptions → Room asked excepted (cond b (But d) (Not 12 0))
+      within d true z h = (let some = eqb-false asked 0 z in omega arith, h)
+      within d false z h = tt
+
+      go : (a z : Bool) → eqb asked 0 ≡ z → (b : Bool) → leb mostExceptions excepted ≡ b → (y : BlockRead)
+          → Room asked excepted (cond a (Not 4 0) (cond z (Not 11 0) (cond b (Not 13 0) (onBlock y Not (λ d. cond (inside (blockOf d) (blockOf above)) (But d) (Not 12 0))))))
+      go true z e b h y = tt
+      go false true e b h y = tt
+      go false false e true h y = tt
+      go false false e false h (block.Not number field) = tt
+      go false false e false h (block.Is d) = within d (inside (blockOf d) (blockOf above)) e (leb-false mostExceptions excepted h)
+
+  pub room : Room asked excepted (policyLine asked excepted above line)
+  unfolding policyLine
+  room = go (skipped line) (named (bytes "ask") line) (named (bytes "but") line)
+    where
+      go : (a b c : Bool) → Room asked excepted (cond a Skipped (cond b (askLine asked line) (cond c (butLine asked excepted above line) (Not 3 1))))
+      go true b c = tt
+      go false true c = ask-room
+      go false false true = but-room
+      go false false false = tt
+
+-- an empty line says nothing
+pub says-nothing : (s : Asked) → saidPolicy s [] ≡ goes s
+unfolding policyLine
+says-nothing s = refl
+
+-- the last directive is the nearest
+nearest-last : (ds : List Directive) (d : Directive) → nearest (ds ++ (d ∷ [])) ≡ d .block
+nearest-last [] d = refl
+nearest-last (x ∷ []) d = refl
+nearest-last (x ∷ y ∷ ds) d = nearest-last (y ∷ ds) d
+
+abbrev setOf : Asked → Policy
+setOf s = policySet (s .directives) (s .exceptions)
+
+-- a record more in the set is a record more in the list
+ask-is : (s : Asked) (d : Directive) → length (s .directives) < mostDirectives → askAdded (setOf s) d ≡ setOf (ask s d)
+ask-is s d h =
+    λ i. record {
+      «directive_count» = sym (length-append (s .directives) (d ∷ [])) i;
+      directives = padded-set mostDirectives zeroDirective (s .directives) d h i;
+      «exception_count» = length (s .exceptions);
+      exceptions = padded mostExceptions zeroException (s .exceptions);
+    }
+
+but-is : (s : Asked) (b : Block) → length (s .exceptions) < mostExceptions → butAdded (setOf s) b ≡ setOf (but s b)
+but-is s b h =
+    λ i. record {
+      «directive_count» = length (s .directives);
+      directives = padded mostDirectives zeroDirective (s .directives);
+      «exception_count» = sym (length-append (s .exceptions) (record { directive = length (s .directives); block = b } ∷ [])) i;
+      exceptions = padded-set mostExceptions zeroException (s .exceptions) (record { directive = length (s .directives); block = b }) h i;
+    }
+
+-- the loop's invariant: the set is that of what is read so far, the block is the nearest directive's, and reading stands at the cursor
+pub record Read (t : List ℕ) (c : Cursor) (p : Policy) (above : Block) : Type 0 where
+  pub s : Asked
+  pub few : length (s .directives) ≤ mostDirectives
+  pub is : p ≡ setOf s
+  pub above-is : above ≡ nearest (s .directives)
+  pub reading : Reading saidPolicy allAsked noneAsked nothingAsked t (c .at) (c .line) s
+
+pub read-none : (t : List ℕ) (p : Policy) → p ≡ setOf nothingAsked → Read t (record { at = 0; line = 1 }) p zeroBlock
+read-none t p e =
+    record { s = nothingAsked; few = omega arith; is = e; above-is = refl; reading = begun saidPolicy allAsked noneAsked nothingAsked t }
+
+pub read-all : (t : List ℕ) (c : Cursor) (p : Policy) (above : Block) (h : Read t c p above) → length t ≤ c .at
+    → record { refusal = refusal 0 0 0; policy = p } ≡ readFrom saidPolicy allAsked noneAsked 1 nothingAsked (linesOf t)
+read-all t c p above h out =
+    (λ i. record { refusal = refusal 0 0 0; policy = h .is i })
+    ∙ sym (finished saidPolicy allAsked noneAsked says-nothing nothingAsked t (c .at) (c .line) (h .s) (h .reading) out)
+
+-- one turn: the line at the cursor says o
+module _ (t : List ℕ) (c : Cursor) (p : Policy) (above : Block) (h : Read t c p above) (fits : length t ≤ mostBytes) (inside : c .at < length t)
+    (o : PolicyLine) (said : o ≡ policyLine (p .«directive_count») (p .«exception_count») above (lineAt t (c .at))) where
+  abbrev then : PolicyLine → Said Asked
+  then x = onPolicyLine x (goes (h .s)) (λ d. goes (ask (h .s) d)) (λ b. goes (but (h .s) b)) stops
+
+  says : (o′ : PolicyLine) → o ≡ o′ → saidPolicy (h .s) (lineAt t (c .at)) ≡ then o′
+  says o′ e =
+      ap then
+      (ap (λ (x : Policy). policyLine (x .«directive_count») (x .«exception_count») (nearest (h .s .directives)) (lineAt t (c .at))) (sym (h .is))
+      ∙ ap (λ (b : Block). policyLine (p .«directive_count») (p .«exception_count») b (lineAt t (c .at))) (sym (h .above-is))
+      ∙ sym said
+      ∙ e)
+
+  -- the next cursor
+  next : (c′ : Cursor) → c′ ≡ cursorAfter t c → (s′ : Asked) → saidPolicy (h .s) (lineAt t (c .at)) ≡ goes s′ → Reading saidPolicy allAsked noneAsked nothingAsked t (c′ .at) (c′ .line) s′
+  next c′ q s′ e =
+      subst (λ (x : Cursor). Reading saidPolicy allAsked noneAsked nothingAsked t (x .at) (x .line) s′) (sym (q ∙ cursor-after t c (omega arith) (omega (arith, h .reading .line-le))))
+      (turned saidPolicy allAsked noneAsked says-nothing nothingAsked t (c .at) (c .line) (h .s) (h .reading) inside s′ e)
+
+  pub has-room : (o′ : PolicyLine) → o ≡ o′ → Room (p .«directive_count») (p .«exception_count») o′
+  has-room o′ e = subst (Room (p .«directive_count») (p .«exception_count»)) (sym said ∙ e) (room (p .«directive_count») (p .«exception_count») above (lineAt t (c .at)))
+
+  asked-is : p .«directive_count» ≡ length (h .s .directives)
+  asked-is = ap (λ (x : Policy). x .«directive_count») (h .is)
+
+  excepted-is : p .«exception_count» ≡ length (h .s .exceptions)
+  excepted-is = ap (λ (x : Policy). x .«exception_count») (h .is)
+
+  pub few-asked : p .«directive_count» ≤ mostDirectives
+  few-asked = omega (arith, asked-is, h .few)
+
+  pub read-skip : (c′ : Cursor) → c′ ≡ cursorAfter t c → o ≡ Skipped → Read t c′ p above
+  read-skip c′ q e = record { s = h .s; few = h .few; is = h .is; above-is = h .above-is; reading = next c′ q (h .s) (says Skipped e) }
+
+  pub read-ask : (c′ : Cursor) (p′ : Policy) (d : Directive) → c′ ≡ cursorAfter t c → p′ ≡ askAdded p d → o ≡ Ask d → Read t c′ p′ (d .block)
+  read-ask c′ p′ d q w e =
+      let spare = has-room (Ask d) e in
+      record {
+        s = ask (h .s) d;
+        few = omega (arith, asked-is, spare, length-append (h .s .directives) (d ∷ []));
+        is = w ∙ ap (λ (x : Policy). askAdded x d) (h .is) ∙ ask-is (h .s) d (omega (arith, asked-is, spare));
+        above-is = sym (nearest-last (h .s .directives) d);
+        reading = next c′ q (ask (h .s) d) (says (Ask d) e);
+      }
+
+  pub read-but : (c′ : Cursor) (p′ : Policy) (b : Block) → c′ ≡ cursorAfter t c → p′ ≡ butAdded p b → o ≡ But b → Read t c′ p′ above
+  read-but c′ p′ b q w e =
+      record {
+        s = but (h .s) b;
+        few = h .few;
+        is = w ∙ ap (λ (x : Policy). butAdded x b) (h .is) ∙ but-is (h .s) b (omega (arith, excepted-is, has-room (But b) e .1));
+        above-is = h .above-is;
+        reading = next c′ q (but (h .s) b) (says (But b) e);
+      }
+
+  pub read-stop : (k f : ℕ) → o ≡ Not k f → readFrom saidPolicy allAsked noneAsked 1 nothingAsked (linesOf t) ≡ noneAsked nothingAsked (refusal k (c .line) f)
+  read-stop k f e = halted saidPolicy allAsked noneAsked says-nothing nothingAsked t (c .at) (c .line) (h .s) (h .reading) inside k f (says (Not k f) e)

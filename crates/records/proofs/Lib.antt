@@ -1,0 +1,4 @@
+pub mod Lines
+pub mod Forming
+pub mod Document
+pub mod OneAnswer

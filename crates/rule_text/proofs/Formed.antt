@@ -1,0 +1,106 @@
+-- What a rule text is read as is in form and zero past its count; a refused one is read as the empty set. Assumes nothing.
+use mathlib.Core.Bool.{Bool, true, false, cond, not, _&&_}
+use mathlib.Core.List.{List, [], _∷_, _++_, map}
+use mathlib.Core.Path.{_≡_, refl, ap, sym, subst, _∙_}
+use native.Mathlib.Omega.{arith}
+use Prim.Native.Nat.{ℕ, _≤_, _<_}
+use lib.Dec.{eqb, leb}
+use lib.ListN.{length, length-append}
+use Rattle.meaning.specs.Fields.{fields}
+use Rattle.meaning.specs.Form.{mostRules, unrefused, blockInForm, refuseRules}
+use Rattle.meaning.specs.Records.{allOf}
+use Rattle.parts.specs.Fields.{fieldCount}
+use Rattle.parts.specs.Words.{bytes}
+use Rattle.blocks.specs.Vocabulary.{blockOf}
+use Rattle.sets.specs.Empty.{emptyRules, RulesZeroPast}
+use Rattle.sets.specs.Inner.{inForm}
+use Rattle.sets.specs.Listed.{ruleSet}
+use Rattle.sets.specs.Vocabulary.{ruleOf, ruleSetOf}
+use Rattle.sets.specs.declared.Refusal.{Refusal}
+use Rattle.sets.specs.declared.Rule.{Rule}
+use Rattle.sets.proofs.Padding.{no-rules, rules-zero, rules-unrefused, all-more}
+use Rattle.texts.specs.Texts.{Said, goes, stops, refusal}
+use Rattle.texts.proofs.Reading.{Keeps, kept}
+use Rattle.records.specs.Records.{skipped, named, readAction, onAction, readBlock, onBlock}
+use Rattle.records.specs.declared.ActionRead.the-variants as action
+use Rattle.records.specs.declared.ActionRead.{ActionRead}
+use Rattle.records.specs.declared.BlockRead.the-variants as block
+use Rattle.records.specs.declared.BlockRead.{BlockRead}
+use Rattle.records.proofs.Forming.{ReadInForm, read-block-in-form}
+use Rattle.rule_text.specs.RuleTexts.{ruleFields, ruleRecord, ruleLine, onRuleLine, saidRule, allRules, noRules, readRules}
+use Rattle.rule_text.specs.declared.RuleLine.the-variants.{Skipped, Is, Not}
+use Rattle.rule_text.specs.declared.RuleLine.{RuleLine}
+use Rattle.rule_text.specs.declared.RulesRead.{RulesRead}
+use Rattle.rule_text.proofs.RuleReading.{Room, room}
+
+-- a rule that a line says is in form
+abbrev RuleInForm : RuleLine → Type 0
+RuleInForm Skipped = Unit {0}
+RuleInForm (Is r) = inForm (ruleOf r) ≡ true
+RuleInForm (Not number field) = Unit {0}
+
+record-in-form : (count : ℕ) (line : List ℕ) → RuleInForm (ruleRecord count line)
+unfolding ruleRecord ruleFields
+record-in-form count line = go (not (eqb (fieldCount line) 6)) (leb mostRules count) (readAction line) (readBlock line 3) (read-block-in-form line 3)
+  where
+    go : (a b : Bool) (x : ActionRead) (y : BlockRead) → ReadInForm y
+        → RuleInForm (cond a (Not 4 0) (cond b (Not 13 0) (onAction x (Not 5 2) (λ e. onBlock y Not (λ d. Is (record { action = e; block = d }))))))
+    go true b x y h = tt
+    go false true x y h = tt
+    go false false action.Unread y h = tt
+    go false false (action.Is e) (block.Not number field) h = tt
+    go false false (action.Is e) (block.Is d) h = h
+
+line-in-form : (count : ℕ) (line : List ℕ) → RuleInForm (ruleLine count line)
+unfolding ruleLine
+line-in-form count line = go (skipped line) (named (bytes "rule") line)
+  where
+    go : (a b : Bool) → RuleInForm (cond a Skipped (cond b (ruleRecord count line) (Not 3 1)))
+    go true b = tt
+    go false true = record-in-form count line
+    go false false = tt
+
+-- what every line keeps: not too many rules, all in form
+abbrev Kept : List Rule → Type 0
+Kept rs = (length rs ≤ mostRules) × (allOf inForm (map ruleOf rs) ≡ true)
+
+keeps : (rs : List Rule) (line : List ℕ) → Kept rs → Keeps Kept (saidRule rs line)
+keeps rs line h = go (ruleLine (length rs) line) (room (length rs) line) (line-in-form (length rs) line)
+  where
+    go : (o : RuleLine) → Room (length rs) o → RuleInForm o → Keeps Kept (onRuleLine o (goes rs) (λ r. goes (rs ++ (r ∷ []))) stops)
+    go Skipped e f = h
+    go (Is r) e f = (omega (arith, length-append rs (r ∷ [])), all-more ruleOf inForm rs r (h .1) f)
+    go (Not number field) e f = tt
+
+-- 14 never applies to what was read, and it is zero past its count
+abbrev Right : RulesRead → Type 0
+Right r = (refuseRules fields (ruleSetOf (r .rules)) ≡ unrefused) × RulesZeroPast (r .rules)
+
+right : (rs : List Rule) → Kept rs → (r : Refusal) → Right (record { refusal = r; rules = ruleSet rs })
+right rs h r = (rules-unrefused rs (h .0) (h .1), rules-zero rs (h .0))
+
+none-kept : Kept []
+unfolding allOf
+none-kept = (omega arith, refl)
+
+read-right : (text : List ℕ) → Right (readRules text)
+unfolding readRules
+read-right text = kept saidRule allRules noRules Kept Right keeps (λ rs h. right rs h (refusal 0 0 0)) (λ rs r. right [] none-kept r) [] text none-kept
+
+pub rules-read-in-form : (text : List ℕ) → refuseRules fields (ruleSetOf (readRules text .rules)) ≡ unrefused
+rules-read-in-form text = read-right text .0
+
+pub rules-read-zero-past : (text : List ℕ) → RulesZeroPast (readRules text .rules)
+rules-read-zero-past text = read-right text .1
+
+-- a refused reading hands back the empty set
+abbrev Empty : RulesRead → Type 0
+Empty r = (r .refusal .number ≡ 0 → ⊥) → r .rules ≡ emptyRules
+
+pub rules-refused-empty : (text : List ℕ) → (readRules text .refusal .number ≡ 0 → ⊥) → readRules text .rules ≡ emptyRules
+unfolding readRules
+rules-refused-empty text = kept saidRule allRules noRules (λ rs. Unit {0}) Empty (λ rs line h. anything (saidRule rs line)) (λ rs h some. absurd (some refl)) (λ rs r some. no-rules) [] text tt
+  where
+    anything : (o : Said (List Rule)) → Keeps (λ rs. Unit {0}) o
+    anything (goes rs) = tt
+    anything (stops number field) = tt

@@ -1,0 +1,4 @@
+pub mod RuleReading
+pub mod Formed
+pub mod Document
+pub mod OneAnswer

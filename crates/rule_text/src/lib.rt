@@ -1,0 +1,144 @@
+// Reading a rule table. `read_rules` answers for every text: the rules in the order of their lines, or the first refusal by number,
+// line and field and the empty set. Its contract says that the answer is what specs/RuleTexts defines for the bytes. What was read
+// is in form and zero past its count (proofs/Formed).
+
+use lines::Cursor;
+use records::ActionRead;
+use records::BlockRead;
+use sets::MOST_RULES;
+use sets::Refusal;
+use sets::Rule;
+use sets::Rules;
+ghost use mathlib.Core.List.{[]};
+ghost use mathlib.Core.Path.{_≡_};
+ghost use Prim.Native.Nat.{_≤_, _<_};
+ghost use lib.ListN.{length};
+ghost use Rattle.meaning.specs.Form.{mostRules};
+ghost use Rattle.lines.specs.Reader.{lineFrom};
+ghost use Rattle.texts.specs.Texts.{mostBytes, linesOf, readFrom};
+ghost use Rattle.rule_text.specs.Inner.{ruleAdded};
+ghost use Rattle.rule_text.specs.RuleTexts.{ruleFields, ruleRecord, ruleLine, saidRule, allRules, noRules, readRules};
+
+// What reading hands back: the refusal, all zeros if there is none, and the rules, none if there is one.
+pub struct RulesRead {
+    pub refusal: Refusal,
+    pub rules: Rules,
+}
+
+// What a line says: nothing, a rule, or the number and the field of a refusal.
+enum RuleLine {
+    Skipped,
+    Is(Rule),
+    Not(u32, u32),
+}
+
+// What a rule text means.
+pub fn read_rules(text: &[u8]) -> RulesRead
+    ensures { λ r. ⌜ r ≡ readRules (now (text .entry)) ⌝ }
+{
+    let refusal = texts::refuse_text(text);
+    if refusal.number == 0 {
+        return read_lines(text);
+    }
+    refuse(refusal)
+}
+
+// The answer to a refusal.
+fn refuse(refusal: Refusal) -> RulesRead
+    ensures { λ r. ⌜ r ≡ noRules [] refusal ⌝ }
+{
+    let rules = Rules::empty();
+    RulesRead { refusal, rules }
+}
+
+// The lines of a text, one after another.
+fn read_lines(text: &[u8]) -> RulesRead
+    requires { ⌜ length (now text) ≤ mostBytes ⌝ }
+    ensures { λ r. ⌜ r ≡ readFrom saidRule allRules noRules 1 [] (linesOf (now (text .entry))) ⌝ }
+{
+    let mut rules = Rules::empty();
+    let mut cursor = Cursor { at: 0, line: 1 };
+    while cursor.at < text.len() {
+        let line = cursor.line;
+        let said = rule_at(text, cursor, rules.count);
+        cursor = lines::after(text, cursor.at, cursor.line);
+        match said {
+            RuleLine::Skipped => {}
+            RuleLine::Is(rule) => {
+                rules = add(rules, rule);
+            }
+            RuleLine::Not(number, field) => {
+                return refuse(Refusal {
+                    number,
+                    line,
+                    field,
+                });
+            }
+        }
+    }
+    let refusal = Refusal {
+        number: 0,
+        line: 0,
+        field: 0,
+    };
+    RulesRead { refusal, rules }
+}
+
+// What the line at a cursor says, after so many rules.
+fn rule_at(text: &[u8], cursor: Cursor, count: usize) -> RuleLine
+    ensures { λ r. ⌜ r ≡ ruleLine count (lineFrom (now (text .entry)) (cursor .at) .bytes) ⌝ }
+{
+    rule_line(lines::line_at(text, cursor.at, cursor.line), count)
+}
+
+// What a line says, after so many rules.
+fn rule_line(line: &[u8], count: usize) -> RuleLine
+    ensures { λ r. ⌜ r ≡ ruleLine count (now (line .entry)) ⌝ }
+{
+    if records::is_skipped(line) {
+        return RuleLine::Skipped;
+    }
+    if records::is_named(line, b"rule") {
+        return rule_record(line, count);
+    }
+    RuleLine::Not(3, 1)
+}
+
+// A `rule` line, after so many rules.
+fn rule_record(line: &[u8], count: usize) -> RuleLine
+    ensures { λ r. ⌜ r ≡ ruleRecord count (now (line .entry)) ⌝ }
+{
+    let fields = parts::count(line, b'\t');
+    if fields != 6 {
+        return RuleLine::Not(4, 0);
+    }
+    if MOST_RULES <= count {
+        return RuleLine::Not(13, 0);
+    }
+    rule_fields(line)
+}
+
+// What its fields behind the first say, from the left.
+fn rule_fields(line: &[u8]) -> RuleLine
+    ensures { λ r. ⌜ r ≡ ruleFields (now (line .entry)) ⌝ }
+{
+    let ActionRead::Is(action) = records::read_action(line) else {
+        return RuleLine::Not(5, 2);
+    };
+    match records::read_block(line, 3) {
+        BlockRead::Is(block) => RuleLine::Is(Rule { action, block }),
+        BlockRead::Not(number, field) => RuleLine::Not(number, field),
+    }
+}
+
+// The set with one rule more.
+fn add(rules: Rules, rule: Rule) -> Rules
+    requires { ⌜ rules .count < mostRules ⌝ }
+    ensures { λ r. ⌜ r ≡ ruleAdded rules rule ⌝ }
+{
+    let mut more = rules;
+    let n = more.count;
+    more.records[n] = rule;
+    more.count = n + 1;
+    more
+}
