@@ -1,6 +1,6 @@
 -- Within a text, and while 32 bits hold the line number, the next cursor is behind the line and its byte 10. Assumes nothing.
-use mathlib.Core.Path.{_≡_, ap}
 use mathlib.Core.List.{List}
+use mathlib.Core.Path.{_≡_, ap}
 use native.Mathlib.Omega.{arith}
 use Prim.Native.Nat.{ℕ, _+_, _-_, _≤_, _<_, min}
 use lib.ListN.{length}

@@ -33,5 +33,5 @@ abbrev pub startOf : RefT (List ℕ) → Lines
 startOf text = record { text = text; at = 0; line = 1 }
 
 -- the reader behind its line
-abbrev pub afterOf : Lines → Lines
-afterOf r = record { text = r .text; at = placeAfter (now (r .text)) (r .at); line = lineAfter (r .line) }
+abbrev pub nextOf : Lines → Lines
+nextOf r = record { text = r .text; at = placeAfter (now (r .text)) (r .at); line = lineAfter (r .line) }

@@ -6,10 +6,10 @@
 ghost use mathlib.Core.Path.{_≡_};
 ghost use Rattle.contracts.specs.Answers.{seen};
 ghost use Rattle.parts.specs.Parts.{shown};
-ghost use Rattle.lines.specs.Reader.{lineFrom, placeAfter, lineAfter, cursorAfter, startOf, afterOf};
+ghost use Rattle.lines.specs.Reader.{lineFrom, placeAfter, lineAfter, cursorAfter, startOf, nextOf};
 
 // The byte that ends a line.
-pub const NEWLINE: u8 = 10;
+pub const NEWLINE: u8 = b'\n';
 
 // Where reading stands in a text: the next place, and the number of the line there.
 pub struct Cursor {
@@ -74,7 +74,7 @@ pub fn current<'a>(reader: Lines<'a>) -> &'a [u8]
 
 // The reader behind its line.
 pub fn next<'a>(reader: Lines<'a>) -> Lines<'a>
-    ensures { λ r. ⌜ r ≡ afterOf (reader .entry) ⌝ }
+    ensures { λ r. ⌜ r ≡ nextOf (reader .entry) ⌝ }
 {
     let at = place_after(reader.text, reader.at);
     let line = line_after(reader.line);

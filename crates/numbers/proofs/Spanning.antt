@@ -9,7 +9,7 @@ use lib.Dec.{eqb, leb}
 use lib.ListN.{length}
 use Rattle.parts.specs.Parts.{parts, part, same}
 use Rattle.parts.specs.Words.{bytes, minus}
-use Rattle.numbers.specs.Decimals.{decimalOf, onNumber}
+use Rattle.numbers.specs.Decimals.{decimalOf}
 use Rattle.numbers.specs.Intervals.{span, single, range, intervalOf}
 use Rattle.numbers.specs.declared.Bounds.the-variants as bounds
 use Rattle.numbers.specs.declared.Bounds.{Bounds}

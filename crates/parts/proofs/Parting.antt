@@ -7,10 +7,10 @@ use native.Mathlib.Numerals.{add-one}
 use native.Mathlib.Omega.{arith}
 use Prim.Native.Nat.{ℕ, zero, suc, _+_, _-_, _≤_, _<_, min}
 use borrow.Author.Tests.{eq-eqb, ne-eqb}
+use denote.Ref.{RefT}
 use lib.Dec.{eqb}
 use lib.ListN.{length, take, drop, getD, length-drop, length-take, drop-of-length-le}
 use lib.Seq.{drop-cons, drop-drop}
-use denote.Ref.{RefT}
 use Rattle.contracts.specs.Answers.{Seen, seen}
 use Rattle.parts.specs.Parts.{onto, parts, part, Piece, piecesFrom, piece, shown}
 

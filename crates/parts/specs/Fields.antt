@@ -4,7 +4,7 @@ use mathlib.Core.List.{List, []}
 use Prim.Native.Nat.{ℕ, _-_}
 use lib.Dec.{eqb}
 use lib.ListN.{length}
-use Rattle.parts.specs.Parts.{Piece, piece, part, parts}
+use Rattle.parts.specs.Parts.{Piece, piece, parts}
 use Rattle.parts.specs.Words.{tab}
 
 -- field n, counted from 1, with its place; "one that the line lacks is the empty part at its end", and so is field 0

@@ -1,13 +1,16 @@
-// The parts of a text between separators, and the fields of a line.
+// The parts of a text between separators: what tabs, ends of lines, dots, slashes and minus signs part, by one law. A part is handed
+// back as a part of the caller's slice, its address promised too, and the fields of a line are such parts. Every call answers for
+// every text, separator and number; the contracts say that the answer is what specs/ defines for the bytes.
+
 ghost use mathlib.Core.Path.{_≡_};
-ghost use Prim.Native.Nat.{ℕ, _+_, _-_, _<_, _≤_};
+ghost use Prim.Native.Nat.{_+_, _≤_};
 ghost use lib.ListN.{length, drop};
 ghost use Rattle.parts.specs.Parts.{parts, part, piece, shown, same};
 ghost use Rattle.contracts.specs.Answers.{seen};
 ghost use Rattle.parts.specs.Fields.{fieldPiece};
 
 // The byte between fields.
-pub const TAB: u8 = 9;
+pub const TAB: u8 = b'\t';
 
 // Where the part that starts at a place ends: at the next separator, or with the text.
 fn part_end(text: &[u8], separator: u8, start: usize) -> usize

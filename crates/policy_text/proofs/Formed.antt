@@ -4,13 +4,13 @@ use mathlib.Core.List.{List, [], _∷_, _++_, map}
 use mathlib.Core.Option.{some}
 use mathlib.Core.Path.{_≡_, refl, ap, sym, subst, _∙_}
 use native.Mathlib.Omega.{arith}
-use Prim.Native.Nat.{ℕ, suc, _≤_, _<_}
+use Prim.Native.Nat.{ℕ, _≤_, _<_}
 use lib.Dec.{T, eqb, leb}
-use lib.ListN.{length, length-append, length-map}
+use lib.ListN.{length, length-append}
 use Rattle.meaning.specs.Blocks.{inside}
 use Rattle.meaning.specs.Fields.{fields}
-use Rattle.meaning.specs.Form.{mostDirectives, mostExceptions, unrefused, blockInForm, exceptionsInForm, refusePolicy}
 use Rattle.meaning.specs.Form as form
+use Rattle.meaning.specs.Form.{mostDirectives, mostExceptions, unrefused, blockInForm, exceptionsInForm, refusePolicy}
 use Rattle.meaning.specs.Records.{allOf, numbered}
 use Rattle.meaning.specs.Rules.{Rule}
 use Rattle.meaning.proofs.FormGrowing.{lastNamed, last-named, directive-added, exception-added}
@@ -29,13 +29,13 @@ use Rattle.sets.specs.declared.Refusal.{Refusal}
 use Rattle.sets.proofs.Padding.{nothing-asked, policy-zero, policy-unrefused, all-more}
 use Rattle.texts.specs.Texts.{Said, goes, stops, refusal}
 use Rattle.texts.proofs.Reading.{Keeps, kept}
-use Rattle.records.specs.Records.{skipped, named, readAction, onAction, readBlock, onBlock}
-use Rattle.records.specs.declared.ActionRead.the-variants as action
-use Rattle.records.specs.declared.ActionRead.{ActionRead}
+use Rattle.records.specs.Records.{skipped, named, readBlock, onBlock, readFive, onFive}
 use Rattle.records.specs.declared.BlockRead.the-variants as block
 use Rattle.records.specs.declared.BlockRead.{BlockRead}
-use Rattle.records.proofs.Forming.{ReadInForm, read-block-in-form}
-use Rattle.policy_text.specs.PolicyTexts.{askFields, butFields, askLine, butLine, policyLine, Asked, nothingAsked, nearest, ask, but, onPolicyLine, saidPolicy, allAsked, noneAsked, readPolicy}
+use Rattle.records.specs.declared.FiveRead.the-variants as five
+use Rattle.records.specs.declared.FiveRead.{FiveRead}
+use Rattle.records.proofs.Forming.{ReadInForm, read-block-in-form, FiveInForm, read-five-in-form}
+use Rattle.policy_text.specs.PolicyTexts.{butFields, askLine, butLine, policyLine, Asked, nothingAsked, nearest, ask, but, onPolicyLine, saidPolicy, allAsked, noneAsked, readPolicy}
 use Rattle.policy_text.specs.declared.PolicyLine.the-variants.{Skipped, Ask, But, Not}
 use Rattle.policy_text.specs.declared.PolicyLine.{PolicyLine}
 use Rattle.policy_text.specs.declared.PolicyRead.{PolicyRead}
@@ -50,16 +50,12 @@ LineInForm above (Not number field) = Unit {0}
 
 module _ (asked excepted : ℕ) (above : Block) (line : List ℕ) where
   ask-in-form : LineInForm above (askLine asked line)
-  unfolding askLine askFields
-  ask-in-form = go (not (eqb (fieldCount line) 6)) (leb mostDirectives asked) (readAction line) (readBlock line 3) (read-block-in-form line 3)
+  unfolding askLine
+  ask-in-form = go (readFive (leb mostDirectives asked) line) (read-five-in-form (leb mostDirectives asked) line)
     where
-      go : (a b : Bool) (x : ActionRead) (y : BlockRead) → ReadInForm y
-          → LineInForm above (cond a (Not 4 0) (cond b (Not 13 0) (onAction x (Not 5 2) (λ e. onBlock y Not (λ d. Ask (record { action = e; block = d }))))))
-      go true b x y h = tt
-      go false true x y h = tt
-      go false false action.Unread y h = tt
-      go false false (action.Is e) (block.Not number field) h = tt
-      go false false (action.Is e) (block.Is d) h = h
+      go : (x : FiveRead) → FiveInForm (leb mostDirectives asked) x → LineInForm above (onFive x Not (λ e d. Ask (record { action = e; block = d })))
+      go (five.Not number field) h = tt
+      go (five.Are e d) h = h .1
 
   but-in-form : LineInForm above (butLine asked excepted above line)
   unfolding butLine butFields

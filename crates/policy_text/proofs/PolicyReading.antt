@@ -20,16 +20,16 @@ use Rattle.sets.specs.declared.Policy.{Policy}
 use Rattle.sets.proofs.Padding.{padded-set}
 use Rattle.lines.specs.Reader.{cursorAfter}
 use Rattle.lines.specs.declared.Cursor.{Cursor}
-use Rattle.lines.proofs.Stepping.{cursor-after}
 use Rattle.texts.specs.Texts.{mostBytes, refusal, linesOf, Said, goes, stops, readFrom}
-use Rattle.texts.proofs.Reading.{Reading, lineAt, begun, turned, halted, finished}
-use Rattle.records.specs.Records.{skipped, named, readAction, onAction, readBlock, onBlock}
-use Rattle.records.specs.declared.ActionRead.the-variants as action
-use Rattle.records.specs.declared.ActionRead.{ActionRead}
+use Rattle.texts.proofs.Reading.{Reading, lineAt, begun, stepped, halted, finished}
+use Rattle.records.specs.Records.{skipped, named, readBlock, onBlock, readFive, onFive}
 use Rattle.records.specs.declared.BlockRead.the-variants as block
 use Rattle.records.specs.declared.BlockRead.{BlockRead}
+use Rattle.records.specs.declared.FiveRead.the-variants as five
+use Rattle.records.specs.declared.FiveRead.{FiveRead}
+use Rattle.records.proofs.Forming.{FiveInForm, read-five-in-form}
 use Rattle.policy_text.specs.Inner.{askAdded, butAdded}
-use Rattle.policy_text.specs.PolicyTexts.{askFields, butFields, askLine, butLine, policyLine, Asked, nothingAsked, nearest, ask, but, onPolicyLine, saidPolicy, allAsked, noneAsked}
+use Rattle.policy_text.specs.PolicyTexts.{butFields, askLine, butLine, policyLine, Asked, nothingAsked, nearest, ask, but, onPolicyLine, saidPolicy, allAsked, noneAsked}
 use Rattle.policy_text.specs.declared.PolicyLine.the-variants.{Skipped, Ask, But, Not}
 use Rattle.policy_text.specs.declared.PolicyLine.{PolicyLine}
 
@@ -42,16 +42,12 @@ Room asked excepted (Not number field) = Unit {0}
 
 module _ (asked excepted : ℕ) (above : Block) (line : List ℕ) where
   ask-room : Room asked excepted (askLine asked line)
-  unfolding askLine askFields
-  ask-room = go (not (eqb (fieldCount line) 6)) (leb mostDirectives asked) refl (readAction line) (readBlock line 3)
+  unfolding askLine
+  ask-room = go (readFive (leb mostDirectives asked) line) (read-five-in-form (leb mostDirectives asked) line)
     where
-      go : (a b : Bool) → leb mostDirectives asked ≡ b → (x : ActionRead) (y : BlockRead)
-          → Room asked excepted (cond a (Not 4 0) (cond b (Not 13 0) (onAction x (Not 5 2) (λ e. onBlock y Not (λ d. Ask (record { action = e; block = d }))))))
-      go true b h x y = tt
-      go false true h x y = tt
-      go false false h action.Unread y = tt
-      go false false h (action.Is e) (block.Not number field) = tt
-      go false false h (action.Is e) (block.Is d) = leb-false mostDirectives asked h
+      go : (x : FiveRead) → FiveInForm (leb mostDirectives asked) x → Room asked excepted (onFive x Not (λ e d. Ask (record { action = e; block = d })))
+      go (five.Not number field) h = tt
+      go (five.Are e d) h = leb-false mostDirectives asked (h .0)
 
   but-room : Room asked excepted (butLine asked excepted above line)
   unfolding butLine butFields
@@ -144,12 +140,6 @@ module _ (t : List ℕ) (c : Cursor) (p : Policy) (above : Block) (h : Read t c 
       ∙ sym said
       ∙ e)
 
-  -- the next cursor
-  next : (c′ : Cursor) → c′ ≡ cursorAfter t c → (s′ : Asked) → saidPolicy (h .s) (lineAt t (c .at)) ≡ goes s′ → Reading saidPolicy allAsked noneAsked nothingAsked t (c′ .at) (c′ .line) s′
-  next c′ q s′ e =
-      subst (λ (x : Cursor). Reading saidPolicy allAsked noneAsked nothingAsked t (x .at) (x .line) s′) (sym (q ∙ cursor-after t c (omega arith) (omega (arith, h .reading .line-le))))
-      (turned saidPolicy allAsked noneAsked says-nothing nothingAsked t (c .at) (c .line) (h .s) (h .reading) inside s′ e)
-
   pub has-room : (o′ : PolicyLine) → o ≡ o′ → Room (p .«directive_count») (p .«exception_count») o′
   has-room o′ e = subst (Room (p .«directive_count») (p .«exception_count»)) (sym said ∙ e) (room (p .«directive_count») (p .«exception_count») above (lineAt t (c .at)))
 
@@ -163,7 +153,7 @@ module _ (t : List ℕ) (c : Cursor) (p : Policy) (above : Block) (h : Read t c 
   few-asked = omega (arith, asked-is, h .few)
 
   pub read-skip : (c′ : Cursor) → c′ ≡ cursorAfter t c → o ≡ Skipped → Read t c′ p above
-  read-skip c′ q e = record { s = h .s; few = h .few; is = h .is; above-is = h .above-is; reading = next c′ q (h .s) (says Skipped e) }
+  read-skip c′ q e = record { s = h .s; few = h .few; is = h .is; above-is = h .above-is; reading = stepped saidPolicy allAsked noneAsked says-nothing nothingAsked t (c .at) (c .line) (h .s) (h .reading) fits inside c′ q (h .s) (says Skipped e) }
 
   pub read-ask : (c′ : Cursor) (p′ : Policy) (d : Directive) → c′ ≡ cursorAfter t c → p′ ≡ askAdded p d → o ≡ Ask d → Read t c′ p′ (d .block)
   read-ask c′ p′ d q w e =
@@ -173,7 +163,7 @@ module _ (t : List ℕ) (c : Cursor) (p : Policy) (above : Block) (h : Read t c 
         few = omega (arith, asked-is, spare, length-append (h .s .directives) (d ∷ []));
         is = w ∙ ap (λ (x : Policy). askAdded x d) (h .is) ∙ ask-is (h .s) d (omega (arith, asked-is, spare));
         above-is = sym (nearest-last (h .s .directives) d);
-        reading = next c′ q (ask (h .s) d) (says (Ask d) e);
+        reading = stepped saidPolicy allAsked noneAsked says-nothing nothingAsked t (c .at) (c .line) (h .s) (h .reading) fits inside c′ q (ask (h .s) d) (says (Ask d) e);
       }
 
   pub read-but : (c′ : Cursor) (p′ : Policy) (b : Block) → c′ ≡ cursorAfter t c → p′ ≡ butAdded p b → o ≡ But b → Read t c′ p′ above
@@ -183,7 +173,7 @@ module _ (t : List ℕ) (c : Cursor) (p : Policy) (above : Block) (h : Read t c 
         few = h .few;
         is = w ∙ ap (λ (x : Policy). butAdded x b) (h .is) ∙ but-is (h .s) b (omega (arith, excepted-is, has-room (But b) e .1));
         above-is = h .above-is;
-        reading = next c′ q (but (h .s) b) (says (But b) e);
+        reading = stepped saidPolicy allAsked noneAsked says-nothing nothingAsked t (c .at) (c .line) (h .s) (h .reading) fits inside c′ q (but (h .s) b) (says (But b) e);
       }
 
   pub read-stop : (k f : ℕ) → o ≡ Not k f → readFrom saidPolicy allAsked noneAsked 1 nothingAsked (linesOf t) ≡ noneAsked nothingAsked (refusal k (c .line) f)

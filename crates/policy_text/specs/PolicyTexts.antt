@@ -17,17 +17,10 @@ use Rattle.sets.specs.declared.Directive.{Directive}
 use Rattle.sets.specs.declared.Exception.{Exception}
 use Rattle.sets.specs.declared.Refusal.{Refusal}
 use Rattle.texts.specs.Texts.{Said, goes, stops, refusal, readText}
-use Rattle.records.specs.Records.{skipped, named, readAction, onAction, readBlock, onBlock}
+use Rattle.records.specs.Records.{skipped, named, readBlock, onBlock, readFive, onFive}
 use Rattle.policy_text.specs.declared.PolicyLine.the-variants.{Skipped, Ask, But, Not}
 use Rattle.policy_text.specs.declared.PolicyLine.{PolicyLine}
 use Rattle.policy_text.specs.declared.PolicyRead.{PolicyRead}
-
--- what an `ask` line says in the fields behind the first, from the left
-unfoldable pub askFields : List ℕ → PolicyLine
-askFields line =
-    onAction (readAction line) (Not 5 2) (λ a.
-    onBlock (readBlock line 3) Not (λ b.
-    Ask (record { action = a; block = b })))
 
 -- what a `but` line says in its fields, under a directive of this block: the fields, and then 12
 unfoldable pub butFields : Block → List ℕ → PolicyLine
@@ -37,10 +30,7 @@ butFields above line =
 
 -- an `ask` line, after so many directives
 unfoldable pub askLine : ℕ → List ℕ → PolicyLine
-askLine asked line =
-    cond (not (eqb (fieldCount line) 6)) (Not 4 0)
-    (cond (leb mostDirectives asked) (Not 13 0)
-    (askFields line))
+askLine asked line = onFive (readFive (leb mostDirectives asked) line) Not (λ a b. Ask (record { action = a; block = b }))
 
 -- a `but` line, after so many directives and exceptions, under the nearest directive above
 unfoldable pub butLine : ℕ → ℕ → Block → List ℕ → PolicyLine

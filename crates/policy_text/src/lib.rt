@@ -4,8 +4,9 @@
 
 use blocks::Block;
 use lines::Cursor;
-use records::ActionRead;
+use parts::TAB;
 use records::BlockRead;
+use records::FiveRead;
 use sets::Directive;
 use sets::Exception;
 use sets::MOST_DIRECTIVES;
@@ -20,7 +21,7 @@ ghost use Rattle.meaning.specs.Form.{mostDirectives, mostExceptions};
 ghost use Rattle.lines.specs.Reader.{lineFrom};
 ghost use Rattle.texts.specs.Texts.{mostBytes, linesOf, readFrom};
 ghost use Rattle.policy_text.specs.Inner.{askAdded, butAdded};
-ghost use Rattle.policy_text.specs.PolicyTexts.{askFields, butFields, askLine, butLine, policyLine, nothingAsked, saidPolicy, allAsked, noneAsked, readPolicy};
+ghost use Rattle.policy_text.specs.PolicyTexts.{butFields, askLine, butLine, policyLine, nothingAsked, saidPolicy, allAsked, noneAsked, readPolicy};
 
 // What reading hands back: the refusal, all zeros if there is none, and the policy, an empty one if there is one.
 pub struct PolicyRead {
@@ -87,11 +88,7 @@ fn read_lines(text: &[u8]) -> PolicyRead
             }
         }
     }
-    let refusal = Refusal {
-        number: 0,
-        line: 0,
-        field: 0,
-    };
+    let refusal = Refusal::NONE;
     PolicyRead { refusal, policy }
 }
 
@@ -127,26 +124,10 @@ fn policy_line(line: &[u8], asked: usize, excepted: usize, above: Block) -> Poli
 fn ask_line(line: &[u8], asked: usize) -> PolicyLine
     ensures { λ r. ⌜ r ≡ askLine asked (now (line .entry)) ⌝ }
 {
-    let fields = parts::count(line, b'\t');
-    if fields != 6 {
-        return PolicyLine::Not(4, 0);
-    }
-    if MOST_DIRECTIVES <= asked {
-        return PolicyLine::Not(13, 0);
-    }
-    ask_fields(line)
-}
-
-// What its fields behind the first say, from the left.
-fn ask_fields(line: &[u8]) -> PolicyLine
-    ensures { λ r. ⌜ r ≡ askFields (now (line .entry)) ⌝ }
-{
-    let ActionRead::Is(action) = records::read_action(line) else {
-        return PolicyLine::Not(5, 2);
-    };
-    match records::read_block(line, 3) {
-        BlockRead::Is(block) => PolicyLine::Ask(Directive { action, block }),
-        BlockRead::Not(number, field) => PolicyLine::Not(number, field),
+    let full = MOST_DIRECTIVES <= asked;
+    match records::read_five(line, full) {
+        FiveRead::Are(action, block) => PolicyLine::Ask(Directive { action, block }),
+        FiveRead::Not(number, field) => PolicyLine::Not(number, field),
     }
 }
 
@@ -154,7 +135,7 @@ fn ask_fields(line: &[u8]) -> PolicyLine
 fn but_line(line: &[u8], asked: usize, excepted: usize, above: Block) -> PolicyLine
     ensures { λ r. ⌜ r ≡ butLine asked excepted above (now (line .entry)) ⌝ }
 {
-    let fields = parts::count(line, b'\t');
+    let fields = parts::count(line, TAB);
     if fields != 5 {
         return PolicyLine::Not(4, 0);
     }
@@ -179,7 +160,7 @@ fn but_fields(line: &[u8], above: Block) -> PolicyLine
                 PolicyLine::Not(12, 0)
             }
         }
-        BlockRead::Not(number, at) => PolicyLine::Not(number, at),
+        BlockRead::Not(number, field) => PolicyLine::Not(number, field),
     }
 }
 

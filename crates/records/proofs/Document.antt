@@ -1,5 +1,5 @@
 -- Document 01's examples of protocols and ports, computed. Assumes nothing.
-use mathlib.Core.List.{List, [], _∷_, map}
+use mathlib.Core.List.{[], _∷_, map}
 use mathlib.Core.Path.{_≡_, refl}
 use Prim.Native.String.{String}
 use Rattle.parts.specs.Words.{bytes}

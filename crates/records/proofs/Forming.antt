@@ -1,13 +1,14 @@
--- A block that reads is in form. Assumes nothing.
-use mathlib.Core.Bool.{Bool, true, false, cond}
+-- A block that reads is in form, alone and among the five fields of a rule or a directive. Assumes nothing.
+use mathlib.Core.Bool.{Bool, true, false, cond, not}
 use mathlib.Core.List.{List}
-use mathlib.Core.Path.{_≡_}
+use mathlib.Core.Path.{_≡_, refl}
 use native.Mathlib.Omega.{arith}
 use Prim.Native.Nat.{ℕ, _+_, _≤_}
 use borrow.Author.Tests.{le-leb, lt-ltb}
+use lib.Dec.{eqb}
 use Rattle.meaning.specs.Fields.{fields}
 use Rattle.meaning.specs.Form.{blockInForm}
-use Rattle.parts.specs.Fields.{field}
+use Rattle.parts.specs.Fields.{field, fieldCount}
 use Rattle.parts.specs.Parts.{same}
 use Rattle.parts.specs.Words.{bytes}
 use Rattle.blocks.specs.Vocabulary.{blockOf}
@@ -18,12 +19,16 @@ use Rattle.numbers.specs.declared.Bounds.{Bounds}
 use Rattle.numbers.proofs.Spanning.{InField, interval-in-field}
 use Rattle.addresses.specs.Addresses.{addressOf}
 use Rattle.addresses.proofs.Addressing.{address-in-field}
-use Rattle.records.specs.Records.{check, both, onSpans, readAddresses, readServices, readBlock}
+use Rattle.records.specs.Records.{readAction, onAction, check, both, onSpans, readAddresses, readServices, readBlock, onBlock, readFive}
 use Rattle.records.specs.Services.{protocolOf, portOf}
+use Rattle.records.specs.declared.ActionRead.the-variants as action
+use Rattle.records.specs.declared.ActionRead.{ActionRead}
 use Rattle.records.specs.declared.BlockRead.the-variants as block
 use Rattle.records.specs.declared.BlockRead.{BlockRead}
 use Rattle.records.specs.declared.Checked.the-variants as checked
 use Rattle.records.specs.declared.Checked.{Checked}
+use Rattle.records.specs.declared.FiveRead.the-variants as five
+use Rattle.records.specs.declared.FiveRead.{FiveRead}
 use Rattle.records.specs.declared.Spans.the-variants as spans
 use Rattle.records.specs.declared.Spans.{Spans}
 
@@ -104,3 +109,20 @@ read-block-in-form line k = go (readAddresses line k) (readServices line (k + 2)
     go (spans.Not number field) y e f = tt
     go (spans.Are s d) (spans.Not number field) e f = tt
     go (spans.Are s d) (spans.Are p q) e f = spans-in-form s d p q (e .0) (e .1) (f .0) (f .1)
+
+-- five fields that read came where there was room, and their block is in form
+abbrev pub FiveInForm : Bool → FiveRead → Type 0
+FiveInForm full (five.Are a b) = (full ≡ false) × (blockInForm fields (blockOf b) ≡ true)
+FiveInForm full (five.Not number field) = Unit {0}
+
+pub read-five-in-form : (full : Bool) (line : List ℕ) → FiveInForm full (readFive full line)
+unfolding readFive
+read-five-in-form full line = go (not (eqb (fieldCount line) 6)) full refl (readAction line) (readBlock line 3) (read-block-in-form line 3)
+  where
+    go : (a b : Bool) → full ≡ b → (x : ActionRead) (y : BlockRead) → ReadInForm y
+        → FiveInForm full (cond a (five.Not 4 0) (cond b (five.Not 13 0) (onAction x (five.Not 5 2) (λ e. onBlock y five.Not (λ d. five.Are e d)))))
+    go true b e x y h = tt
+    go false true e x y h = tt
+    go false false e action.Unread y h = tt
+    go false false e (action.Is x) (block.Not number field) h = tt
+    go false false e (action.Is x) (block.Is y) h = (e, h)

@@ -1,10 +1,10 @@
 -- What a line and its fields say, in both texts: whether it is skipped, its first word, an action, and a block.
-use mathlib.Core.Bool.{Bool, true, cond}
+use mathlib.Core.Bool.{Bool, true, cond, not}
 use mathlib.Core.List.{List, [], _∷_}
 use Prim.Native.Char.{code}
 use Prim.Native.Nat.{ℕ, _+_}
 use lib.Dec.{eqb}
-use Rattle.parts.specs.Fields.{field}
+use Rattle.parts.specs.Fields.{field, fieldCount}
 use Rattle.parts.specs.Parts.{same}
 use Rattle.parts.specs.Words.{bytes}
 use Rattle.blocks.specs.declared.Block.{Block}
@@ -21,6 +21,8 @@ use Rattle.records.specs.declared.BlockRead.the-variants as block
 use Rattle.records.specs.declared.BlockRead.{BlockRead}
 use Rattle.records.specs.declared.Checked.the-variants as checked
 use Rattle.records.specs.declared.Checked.{Checked}
+use Rattle.records.specs.declared.FiveRead.the-variants as five
+use Rattle.records.specs.declared.FiveRead.{FiveRead}
 use Rattle.records.specs.declared.Spans.the-variants as spans
 use Rattle.records.specs.declared.Spans.{Spans}
 
@@ -78,3 +80,17 @@ readBlock line k =
 abbrev pub onBlock : {R : Type 0} → BlockRead → (ℕ → ℕ → R) → (Block → R) → R
 onBlock (block.Is b) stop go = go b
 onBlock (block.Not number field) stop go = stop number field
+
+-- "the same five" of a `rule` and an `ask` line, action, source, destination, protocol, port: 4, then 13 where there is no room for one
+-- more, then the fields from the left
+unfoldable pub readFive : Bool → List ℕ → FiveRead
+readFive full line =
+    cond (not (eqb (fieldCount line) 6)) (five.Not 4 0)
+    (cond full (five.Not 13 0)
+    (onAction (readAction line) (five.Not 5 2) (λ a.
+    onBlock (readBlock line 3) five.Not (λ b.
+    five.Are a b))))
+
+abbrev pub onFive : {R : Type 0} → FiveRead → (ℕ → ℕ → R) → (Action → Block → R) → R
+onFive (five.Are a b) stop go = go a b
+onFive (five.Not number field) stop go = stop number field

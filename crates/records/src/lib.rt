@@ -1,17 +1,19 @@
-// What a line and its fields say, in both texts: whether it is skipped, its first word, the action, and the block in four fields.
+// What a line and its fields say, in both texts: whether it is skipped, its first word, the action, the block in four fields, and
+// the five fields that a rule and a directive have in common.
 // A field that is refused is told by its number of refusal and its place in the line, the first from the left. The contracts say
 // that each answer is what specs/ defines for the bytes, for every line.
 
 use blocks::Block;
 use blocks::Span;
 use numbers::Bounds;
+use parts::TAB;
 use sets::Action;
 ghost use mathlib.Core.Path.{_≡_};
 ghost use Prim.Native.Nat.{_+_, _≤_};
 ghost use Rattle.parts.specs.Fields.{field};
 ghost use Rattle.addresses.specs.Addresses.{addressOf};
 ghost use Rattle.records.specs.Services.{protocolOf, portOf};
-ghost use Rattle.records.specs.Records.{skipped, named, readAction, check, both, readAddresses, readServices, readBlock};
+ghost use Rattle.records.specs.Records.{skipped, named, readAction, check, both, readAddresses, readServices, readBlock, readFive};
 
 // An action, if one reads.
 pub enum ActionRead {
@@ -20,13 +22,13 @@ pub enum ActionRead {
 }
 
 // The span of a field, or the number by which it is refused.
-pub enum Checked {
+enum Checked {
     Is(Span),
     Not(u32),
 }
 
 // The spans of two fields, or the number and the field of the first refusal.
-pub enum Spans {
+enum Spans {
     Are(Span, Span),
     Not(u32, u32),
 }
@@ -34,6 +36,12 @@ pub enum Spans {
 // A block, or the number and the field of the first refusal.
 pub enum BlockRead {
     Is(Block),
+    Not(u32, u32),
+}
+
+// The five fields of a rule or a directive, or the number and the field of the first refusal.
+pub enum FiveRead {
+    Are(Action, Block),
     Not(u32, u32),
 }
 
@@ -91,19 +99,21 @@ fn port(text: &[u8]) -> Bounds
     numbers::interval(text, Block::WIDEST.port.high)
 }
 
-// Field n as an address, a protocol, a port.
+// Field n as an address.
 fn address_field(line: &[u8], n: usize) -> Bounds
     ensures { λ r. ⌜ r ≡ addressOf (field (now (line .entry)) n) ⌝ }
 {
     addresses::address(parts::field(line, n))
 }
 
+// Field n as a protocol.
 fn protocol_field(line: &[u8], n: usize) -> Bounds
     ensures { λ r. ⌜ r ≡ protocolOf (field (now (line .entry)) n) ⌝ }
 {
     protocol(parts::field(line, n))
 }
 
+// Field n as a port.
 fn port_field(line: &[u8], n: usize) -> Bounds
     ensures { λ r. ⌜ r ≡ portOf (field (now (line .entry)) n) ⌝ }
 {
@@ -173,5 +183,25 @@ pub fn read_block(line: &[u8], k: u8) -> BlockRead
             Spans::Not(number, field) => BlockRead::Not(number, field),
         },
         Spans::Not(number, field) => BlockRead::Not(number, field),
+    }
+}
+
+// The five fields of a rule or a directive; full tells that there is no room for one more.
+pub fn read_five(line: &[u8], full: bool) -> FiveRead
+    ensures { λ r. ⌜ r ≡ readFive full (now (line .entry)) ⌝ }
+{
+    let fields = parts::count(line, TAB);
+    if fields != 6 {
+        return FiveRead::Not(4, 0);
+    }
+    if full {
+        return FiveRead::Not(13, 0);
+    }
+    let ActionRead::Is(action) = read_action(line) else {
+        return FiveRead::Not(5, 2);
+    };
+    match read_block(line, 3) {
+        BlockRead::Is(block) => FiveRead::Are(action, block),
+        BlockRead::Not(number, field) => FiveRead::Not(number, field),
     }
 }

@@ -1,17 +1,15 @@
 -- What a rule text is read as is in form and zero past its count; a refused one is read as the empty set. Assumes nothing.
-use mathlib.Core.Bool.{Bool, true, false, cond, not, _&&_}
+use mathlib.Core.Bool.{Bool, true, false, cond}
 use mathlib.Core.List.{List, [], _∷_, _++_, map}
-use mathlib.Core.Path.{_≡_, refl, ap, sym, subst, _∙_}
+use mathlib.Core.Path.{_≡_, refl}
 use native.Mathlib.Omega.{arith}
-use Prim.Native.Nat.{ℕ, _≤_, _<_}
-use lib.Dec.{eqb, leb}
+use Prim.Native.Nat.{ℕ, _≤_}
+use lib.Dec.{leb}
 use lib.ListN.{length, length-append}
 use Rattle.meaning.specs.Fields.{fields}
-use Rattle.meaning.specs.Form.{mostRules, unrefused, blockInForm, refuseRules}
+use Rattle.meaning.specs.Form.{mostRules, unrefused, refuseRules}
 use Rattle.meaning.specs.Records.{allOf}
-use Rattle.parts.specs.Fields.{fieldCount}
 use Rattle.parts.specs.Words.{bytes}
-use Rattle.blocks.specs.Vocabulary.{blockOf}
 use Rattle.sets.specs.Empty.{emptyRules, RulesZeroPast}
 use Rattle.sets.specs.Inner.{inForm}
 use Rattle.sets.specs.Listed.{ruleSet}
@@ -21,13 +19,11 @@ use Rattle.sets.specs.declared.Rule.{Rule}
 use Rattle.sets.proofs.Padding.{no-rules, rules-zero, rules-unrefused, all-more}
 use Rattle.texts.specs.Texts.{Said, goes, stops, refusal}
 use Rattle.texts.proofs.Reading.{Keeps, kept}
-use Rattle.records.specs.Records.{skipped, named, readAction, onAction, readBlock, onBlock}
-use Rattle.records.specs.declared.ActionRead.the-variants as action
-use Rattle.records.specs.declared.ActionRead.{ActionRead}
-use Rattle.records.specs.declared.BlockRead.the-variants as block
-use Rattle.records.specs.declared.BlockRead.{BlockRead}
-use Rattle.records.proofs.Forming.{ReadInForm, read-block-in-form}
-use Rattle.rule_text.specs.RuleTexts.{ruleFields, ruleRecord, ruleLine, onRuleLine, saidRule, allRules, noRules, readRules}
+use Rattle.records.specs.Records.{skipped, named, readFive, onFive}
+use Rattle.records.specs.declared.FiveRead.the-variants as five
+use Rattle.records.specs.declared.FiveRead.{FiveRead}
+use Rattle.records.proofs.Forming.{FiveInForm, read-five-in-form}
+use Rattle.rule_text.specs.RuleTexts.{ruleRecord, ruleLine, onRuleLine, saidRule, allRules, noRules, readRules}
 use Rattle.rule_text.specs.declared.RuleLine.the-variants.{Skipped, Is, Not}
 use Rattle.rule_text.specs.declared.RuleLine.{RuleLine}
 use Rattle.rule_text.specs.declared.RulesRead.{RulesRead}
@@ -39,26 +35,15 @@ RuleInForm Skipped = Unit {0}
 RuleInForm (Is r) = inForm (ruleOf r) ≡ true
 RuleInForm (Not number field) = Unit {0}
 
-record-in-form : (count : ℕ) (line : List ℕ) → RuleInForm (ruleRecord count line)
-unfolding ruleRecord ruleFields
-record-in-form count line = go (not (eqb (fieldCount line) 6)) (leb mostRules count) (readAction line) (readBlock line 3) (read-block-in-form line 3)
-  where
-    go : (a b : Bool) (x : ActionRead) (y : BlockRead) → ReadInForm y
-        → RuleInForm (cond a (Not 4 0) (cond b (Not 13 0) (onAction x (Not 5 2) (λ e. onBlock y Not (λ d. Is (record { action = e; block = d }))))))
-    go true b x y h = tt
-    go false true x y h = tt
-    go false false action.Unread y h = tt
-    go false false (action.Is e) (block.Not number field) h = tt
-    go false false (action.Is e) (block.Is d) h = h
-
 line-in-form : (count : ℕ) (line : List ℕ) → RuleInForm (ruleLine count line)
-unfolding ruleLine
-line-in-form count line = go (skipped line) (named (bytes "rule") line)
+unfolding ruleLine ruleRecord
+line-in-form count line = go (skipped line) (named (bytes "rule") line) (readFive (leb mostRules count) line) (read-five-in-form (leb mostRules count) line)
   where
-    go : (a b : Bool) → RuleInForm (cond a Skipped (cond b (ruleRecord count line) (Not 3 1)))
-    go true b = tt
-    go false true = record-in-form count line
-    go false false = tt
+    go : (a b : Bool) (x : FiveRead) → FiveInForm (leb mostRules count) x → RuleInForm (cond a Skipped (cond b (onFive x Not (λ e d. Is (record { action = e; block = d }))) (Not 3 1)))
+    go true b x h = tt
+    go false false x h = tt
+    go false true (five.Not number field) h = tt
+    go false true (five.Are e d) h = h .1
 
 -- what every line keeps: not too many rules, all in form
 abbrev Kept : List Rule → Type 0

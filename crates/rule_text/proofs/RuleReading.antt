@@ -1,14 +1,13 @@
 -- Laws of the lines of a rule table, and of the loop over them. Assumes nothing.
-use mathlib.Core.Bool.{Bool, true, false, cond, not}
+use mathlib.Core.Bool.{Bool, true, false, cond}
 use mathlib.Core.List.{List, [], _∷_, _++_}
 use mathlib.Core.Path.{_≡_, refl, ap, sym, subst, _∙_}
 use native.Mathlib.Omega.{arith}
 use Prim.Native.Nat.{ℕ, _≤_, _<_}
 use borrow.Author.Tests.{leb-false}
-use lib.Dec.{eqb, leb}
+use lib.Dec.{leb}
 use lib.ListN.{length, length-append}
 use Rattle.meaning.specs.Form.{mostRules}
-use Rattle.parts.specs.Fields.{fieldCount}
 use Rattle.parts.specs.Words.{bytes}
 use Rattle.sets.specs.Empty.{zeroRule}
 use Rattle.sets.specs.Listed.{ruleSet}
@@ -17,16 +16,14 @@ use Rattle.sets.specs.declared.Rules.{Rules}
 use Rattle.sets.proofs.Padding.{padded-set}
 use Rattle.lines.specs.Reader.{cursorAfter}
 use Rattle.lines.specs.declared.Cursor.{Cursor}
-use Rattle.lines.proofs.Stepping.{cursor-after}
 use Rattle.texts.specs.Texts.{mostBytes, refusal, linesOf, Said, goes, stops, readFrom}
-use Rattle.texts.proofs.Reading.{Reading, lineAt, begun, turned, halted, finished}
-use Rattle.records.specs.Records.{skipped, named, readAction, onAction, readBlock, onBlock}
-use Rattle.records.specs.declared.ActionRead.the-variants as action
-use Rattle.records.specs.declared.ActionRead.{ActionRead}
-use Rattle.records.specs.declared.BlockRead.the-variants as block
-use Rattle.records.specs.declared.BlockRead.{BlockRead}
+use Rattle.texts.proofs.Reading.{Reading, lineAt, begun, stepped, halted, finished}
+use Rattle.records.specs.Records.{skipped, named, readFive, onFive}
+use Rattle.records.specs.declared.FiveRead.the-variants as five
+use Rattle.records.specs.declared.FiveRead.{FiveRead}
+use Rattle.records.proofs.Forming.{FiveInForm, read-five-in-form}
 use Rattle.rule_text.specs.Inner.{ruleAdded}
-use Rattle.rule_text.specs.RuleTexts.{ruleFields, ruleRecord, ruleLine, onRuleLine, saidRule, allRules, noRules}
+use Rattle.rule_text.specs.RuleTexts.{ruleRecord, ruleLine, onRuleLine, saidRule, allRules, noRules}
 use Rattle.rule_text.specs.declared.RuleLine.the-variants.{Skipped, Is, Not}
 use Rattle.rule_text.specs.declared.RuleLine.{RuleLine}
 
@@ -36,26 +33,15 @@ Room count Skipped = Unit {0}
 Room count (Is r) = count < mostRules
 Room count (Not number field) = Unit {0}
 
-record-room : (count : ℕ) (line : List ℕ) → Room count (ruleRecord count line)
-unfolding ruleRecord ruleFields
-record-room count line = go (not (eqb (fieldCount line) 6)) (leb mostRules count) refl (readAction line) (readBlock line 3)
-  where
-    go : (a b : Bool) → leb mostRules count ≡ b → (x : ActionRead) (y : BlockRead)
-        → Room count (cond a (Not 4 0) (cond b (Not 13 0) (onAction x (Not 5 2) (λ e. onBlock y Not (λ d. Is (record { action = e; block = d }))))))
-    go true b h x y = tt
-    go false true h x y = tt
-    go false false h action.Unread y = tt
-    go false false h (action.Is e) (block.Not number field) = tt
-    go false false h (action.Is e) (block.Is d) = leb-false mostRules count h
-
 pub room : (count : ℕ) (line : List ℕ) → Room count (ruleLine count line)
-unfolding ruleLine
-room count line = go (skipped line) (named (bytes "rule") line)
+unfolding ruleLine ruleRecord
+room count line = go (skipped line) (named (bytes "rule") line) (readFive (leb mostRules count) line) (read-five-in-form (leb mostRules count) line)
   where
-    go : (a b : Bool) → Room count (cond a Skipped (cond b (ruleRecord count line) (Not 3 1)))
-    go true b = tt
-    go false true = record-room count line
-    go false false = tt
+    go : (a b : Bool) (x : FiveRead) → FiveInForm (leb mostRules count) x → Room count (cond a Skipped (cond b (onFive x Not (λ e d. Is (record { action = e; block = d }))) (Not 3 1)))
+    go true b x h = tt
+    go false false x h = tt
+    go false true (five.Not number field) h = tt
+    go false true (five.Are e d) h = leb-false mostRules count (h .0)
 
 -- an empty line says nothing
 pub says-nothing : (rs : List Rule) → saidRule rs [] ≡ goes rs
@@ -89,17 +75,11 @@ module _ (t : List ℕ) (c : Cursor) (s : Rules) (h : Read t c s) (fits : length
   says : (o′ : RuleLine) → o ≡ o′ → saidRule (h .rs) (lineAt t (c .at)) ≡ then o′
   says o′ e = ap then (ap (λ (x : Rules). ruleLine (x .count) (lineAt t (c .at))) (sym (h .is)) ∙ sym said ∙ e)
 
-  -- the next cursor
-  next : (c′ : Cursor) → c′ ≡ cursorAfter t c → (rs′ : List Rule) → saidRule (h .rs) (lineAt t (c .at)) ≡ goes rs′ → Reading saidRule allRules noRules [] t (c′ .at) (c′ .line) rs′
-  next c′ p rs′ e =
-      subst (λ (x : Cursor). Reading saidRule allRules noRules [] t (x .at) (x .line) rs′) (sym (p ∙ cursor-after t c (omega arith) (omega (arith, h .reading .line-le))))
-      (turned saidRule allRules noRules says-nothing [] t (c .at) (c .line) (h .rs) (h .reading) inside rs′ e)
-
   pub has-room : (r : Rule) → o ≡ Is r → s .count < mostRules
   has-room r e = subst (Room (s .count)) (sym said ∙ e) (room (s .count) (lineAt t (c .at)))
 
   pub read-skip : (c′ : Cursor) → c′ ≡ cursorAfter t c → o ≡ Skipped → Read t c′ s
-  read-skip c′ p e = record { rs = h .rs; is = h .is; reading = next c′ p (h .rs) (says Skipped e) }
+  read-skip c′ p e = record { rs = h .rs; is = h .is; reading = stepped saidRule allRules noRules says-nothing [] t (c .at) (c .line) (h .rs) (h .reading) fits inside c′ p (h .rs) (says Skipped e) }
 
   pub read-more : (c′ : Cursor) (s′ : Rules) (r : Rule) → c′ ≡ cursorAfter t c → s′ ≡ ruleAdded s r → o ≡ Is r → Read t c′ s′
   read-more c′ s′ r p q e =
@@ -107,7 +87,7 @@ module _ (t : List ℕ) (c : Cursor) (s : Rules) (h : Read t c s) (fits : length
       record {
         rs = h .rs ++ (r ∷ []);
         is = q ∙ ap (λ (x : Rules). ruleAdded x r) (h .is) ∙ added-is (h .rs) r (omega (arith, has-room r e));
-        reading = next c′ p (h .rs ++ (r ∷ [])) (says (Is r) e);
+        reading = stepped saidRule allRules noRules says-nothing [] t (c .at) (c .line) (h .rs) (h .reading) fits inside c′ p (h .rs ++ (r ∷ [])) (says (Is r) e);
       }
 
   pub read-stop : (k f : ℕ) → o ≡ Not k f → readFrom saidRule allRules noRules 1 [] (linesOf t) ≡ noRules [] (refusal k (c .line) f)

@@ -1,34 +1,23 @@
--- "Rule table: `rule`, action, source, destination, protocol, port." "In a line: 3, 4, 13, then fields from the left."
-use mathlib.Core.Bool.{cond, not}
+-- "Rule table: `rule`, action, source, destination, protocol, port."
+use mathlib.Core.Bool.{cond}
 use mathlib.Core.List.{List, [], _∷_, _++_}
 use Prim.Native.Nat.{ℕ}
-use lib.Dec.{eqb, leb}
+use lib.Dec.{leb}
 use lib.ListN.{length}
 use Rattle.meaning.specs.Form.{mostRules}
-use Rattle.parts.specs.Fields.{fieldCount}
 use Rattle.parts.specs.Words.{bytes}
 use Rattle.sets.specs.Listed.{ruleSet}
 use Rattle.sets.specs.declared.Refusal.{Refusal}
 use Rattle.sets.specs.declared.Rule.{Rule}
 use Rattle.texts.specs.Texts.{Said, goes, stops, refusal, readText}
-use Rattle.records.specs.Records.{skipped, named, readAction, onAction, readBlock, onBlock}
+use Rattle.records.specs.Records.{skipped, named, readFive, onFive}
 use Rattle.rule_text.specs.declared.RuleLine.the-variants.{Skipped, Is, Not}
 use Rattle.rule_text.specs.declared.RuleLine.{RuleLine}
 use Rattle.rule_text.specs.declared.RulesRead.{RulesRead}
 
--- what a `rule` line says in the fields behind the first, from the left
-unfoldable pub ruleFields : List ℕ → RuleLine
-ruleFields line =
-    onAction (readAction line) (Not 5 2) (λ a.
-    onBlock (readBlock line 3) Not (λ b.
-    Is (record { action = a; block = b })))
-
 -- a `rule` line, after so many rules
 unfoldable pub ruleRecord : ℕ → List ℕ → RuleLine
-ruleRecord count line =
-    cond (not (eqb (fieldCount line) 6)) (Not 4 0)
-    (cond (leb mostRules count) (Not 13 0)
-    (ruleFields line))
+ruleRecord count line = onFive (readFive (leb mostRules count) line) Not (λ a b. Is (record { action = a; block = b }))
 
 -- what a line says, after so many rules
 unfoldable pub ruleLine : ℕ → List ℕ → RuleLine

@@ -3,8 +3,7 @@
 // is in form and zero past its count (proofs/Formed).
 
 use lines::Cursor;
-use records::ActionRead;
-use records::BlockRead;
+use records::FiveRead;
 use sets::MOST_RULES;
 use sets::Refusal;
 use sets::Rule;
@@ -17,7 +16,7 @@ ghost use Rattle.meaning.specs.Form.{mostRules};
 ghost use Rattle.lines.specs.Reader.{lineFrom};
 ghost use Rattle.texts.specs.Texts.{mostBytes, linesOf, readFrom};
 ghost use Rattle.rule_text.specs.Inner.{ruleAdded};
-ghost use Rattle.rule_text.specs.RuleTexts.{ruleFields, ruleRecord, ruleLine, saidRule, allRules, noRules, readRules};
+ghost use Rattle.rule_text.specs.RuleTexts.{ruleRecord, ruleLine, saidRule, allRules, noRules, readRules};
 
 // What reading hands back: the refusal, all zeros if there is none, and the rules, none if there is one.
 pub struct RulesRead {
@@ -76,11 +75,7 @@ fn read_lines(text: &[u8]) -> RulesRead
             }
         }
     }
-    let refusal = Refusal {
-        number: 0,
-        line: 0,
-        field: 0,
-    };
+    let refusal = Refusal::NONE;
     RulesRead { refusal, rules }
 }
 
@@ -108,26 +103,10 @@ fn rule_line(line: &[u8], count: usize) -> RuleLine
 fn rule_record(line: &[u8], count: usize) -> RuleLine
     ensures { λ r. ⌜ r ≡ ruleRecord count (now (line .entry)) ⌝ }
 {
-    let fields = parts::count(line, b'\t');
-    if fields != 6 {
-        return RuleLine::Not(4, 0);
-    }
-    if MOST_RULES <= count {
-        return RuleLine::Not(13, 0);
-    }
-    rule_fields(line)
-}
-
-// What its fields behind the first say, from the left.
-fn rule_fields(line: &[u8]) -> RuleLine
-    ensures { λ r. ⌜ r ≡ ruleFields (now (line .entry)) ⌝ }
-{
-    let ActionRead::Is(action) = records::read_action(line) else {
-        return RuleLine::Not(5, 2);
-    };
-    match records::read_block(line, 3) {
-        BlockRead::Is(block) => RuleLine::Is(Rule { action, block }),
-        BlockRead::Not(number, field) => RuleLine::Not(number, field),
+    let full = MOST_RULES <= count;
+    match records::read_five(line, full) {
+        FiveRead::Are(action, block) => RuleLine::Is(Rule { action, block }),
+        FiveRead::Not(number, field) => RuleLine::Not(number, field),
     }
 }
 

@@ -3,12 +3,12 @@ use mathlib.Core.Bool.{Bool, true, false, _&&_}
 use mathlib.Core.List.{List, [], _∷_, _++_, map}
 use mathlib.Core.Path.{_≡_, refl, ap, sym, _∙_}
 use native.Mathlib.Omega.{arith}
-use Prim.Native.Nat.{ℕ, zero, suc, _+_, _-_, _≤_, _<_}
+use Prim.Native.Nat.{ℕ, suc, _+_, _-_, _≤_, _<_}
 use borrow.Author.Tests.{le-leb}
 use lib.ListN.{length, take, drop, set, replicate, length-append, length-replicate}
 use lib.Seq.{set-append-seam, append-snoc}
 use Rattle.meaning.specs.Fields.{fields}
-use Rattle.meaning.specs.Form.{mostRules, mostDirectives, mostExceptions, unrefused, tableOf, rulesInForm, policyInForm, exceptionsInForm, refuseRules, refusePolicy}
+use Rattle.meaning.specs.Form.{mostRules, mostDirectives, mostExceptions, unrefused, rulesInForm, policyInForm, exceptionsInForm, refuseRules, refusePolicy}
 use Rattle.meaning.specs.Records.{allOf}
 use Rattle.sets.specs.Empty.{zeroRule, zeroDirective, zeroException, emptyRules, emptyPolicy, zeroPast, RulesZeroPast, PolicyZeroPast}
 use Rattle.sets.specs.Inner.{inForm}

@@ -129,6 +129,15 @@ impl Policy {
     }
 }
 
+impl Refusal {
+    // No refusal: all zeros.
+    pub const NONE: Refusal = Refusal {
+        number: 0,
+        line: 0,
+        field: 0,
+    };
+}
+
 impl Label {
     // The number of the label's kind.
     pub fn kind(self) -> u32
@@ -209,11 +218,7 @@ fn refuse_unless(in_form: bool, what: u32) -> Refusal
     ensures { λ r. ⌜ refusalOf r ≡ cond «in_form» unrefused (outOfForm what) ⌝ }
 {
     if in_form {
-        Refusal {
-            number: 0,
-            line: 0,
-            field: 0,
-        }
+        Refusal::NONE
     } else {
         Refusal {
             number: 14,

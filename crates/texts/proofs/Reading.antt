@@ -1,18 +1,21 @@
 -- Laws of reading a text line by line, for every kind of line. Assumes nothing.
 use mathlib.Core.Bool.{Bool, true, false, cond}
 use mathlib.Core.List.{List, [], _∷_}
-use mathlib.Core.Path.{_≡_, refl, ap, sym, _∙_}
+use mathlib.Core.Path.{_≡_, refl, ap, sym, subst, _∙_}
 use native.Mathlib.Decide.{decLt}
 use native.Mathlib.Numerals.{add-one}
 use native.Mathlib.Omega.{arith}
 use Prim.Native.Nat.{ℕ, suc, _+_, _≤_, _<_}
-use borrow.Author.Tests.{ltb-false, eqb-true}
+use borrow.Author.Tests.{ltb-false}
 use lib.Dec.{eqb, ltb}
 use lib.ListN.{length, getD, drop}
-use Rattle.parts.specs.Parts.{parts, part}
+use Rattle.parts.specs.Parts.{part}
 use Rattle.parts.specs.Words.{newline}
 use Rattle.parts.proofs.Parting.{part-here, parts-next, parts-last, part-fits, at-end}
 use Rattle.sets.specs.declared.Refusal.{Refusal}
+use Rattle.lines.specs.Reader.{cursorAfter}
+use Rattle.lines.specs.declared.Cursor.{Cursor}
+use Rattle.lines.proofs.Stepping.{cursor-after}
 use Rattle.texts.specs.Texts.{mostBytes, unended, refusal, refuseText, linesOf, Said, goes, stops, onSaid, readFrom, readText}
 
 -- a text that is not refused as a whole is not too long
@@ -93,6 +96,12 @@ module _ {S R : Type 0} (said : S → List ℕ → Said S) (all : S → R) (refu
 
       pub halted : at < length t → (k f : ℕ) → said s (lineAt t at) ≡ stops k f → from 1 first (linesOf t) ≡ refused s (refusal k line f)
       halted inside k f e = h .rest-is ∙ line-first t at line s (omega arith) ∙ simp e
+
+      -- the same with cursors, in a text that is not too long
+      pub stepped : length t ≤ mostBytes → at < length t → (c′ : Cursor) → c′ ≡ cursorAfter t (record { at = at; line = line }) → (s′ : S) → said s (lineAt t at) ≡ goes s′ → Reading first t (c′ .at) (c′ .line) s′
+      stepped fits inside c′ moved s′ e =
+          subst (λ (c : Cursor). Reading first t (c .at) (c .line) s′) (sym (moved ∙ cursor-after t (record { at = at; line = line }) (omega arith) (omega (arith, h .line-le))))
+          (turned inside s′ e)
 
       pub finished : length t ≤ at → from 1 first (linesOf t) ≡ all s
       finished out = h .rest-is ∙ ap (from line s) (at-end newline t at out) ∙ simp (nothing s)

@@ -2,6 +2,7 @@
 // reading line by line stands in specs/Texts, for every kind of line, and its laws in proofs/Reading; the readers of the rule table and of
 // the policy are two uses of it. The contract says that the answer is what specs/ defines for the bytes, for every text.
 
+use lines::NEWLINE;
 use sets::Refusal;
 ghost use mathlib.Core.Path.{_≡_};
 ghost use Rattle.texts.specs.Texts.{unended, refuseText};
@@ -15,7 +16,7 @@ fn is_unended(text: &[u8]) -> bool
 {
     let n = text.len();
     if 0 < n {
-        return text[n - 1] != b'\n';
+        return text[n - 1] != NEWLINE;
     }
     false
 }
@@ -32,7 +33,7 @@ pub fn refuse_text(text: &[u8]) -> Refusal
         };
     }
     if is_unended(text) {
-        let lines = parts::count(text, b'\n');
+        let lines = parts::count(text, NEWLINE);
         let last = lines as u32;
         return Refusal {
             number: 2,
@@ -40,9 +41,5 @@ pub fn refuse_text(text: &[u8]) -> Refusal
             field: 0,
         };
     }
-    Refusal {
-        number: 0,
-        line: 0,
-        field: 0,
-    }
+    Refusal::NONE
 }

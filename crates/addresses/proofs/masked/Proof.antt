@@ -4,8 +4,8 @@ use native.Mathlib.Omega.{arith}
 use borrow.Author.Needs.{needs}
 use borrow.Author.Tests.{eq-eqb, ne-eqb}
 use lib.Count.{onesIn, ones-le, trailing-le}
-use Rattle.addresses.proofs.Masks.{ones-in, mask-yes, mask-no}
 use Rattle.addresses.specs.Addresses.{prefixOf, maskOf, maskedBy}
+use Rattle.addresses.proofs.Masks.{ones-in, mask-yes, mask-no}
 use Rattle.addresses.proofs.masked.Statement.{statement}
 use Rattle.addresses.proofs.masked.Tie as tie
 

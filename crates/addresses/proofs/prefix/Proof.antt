@@ -7,8 +7,8 @@ use borrow.Author.Tests.{eq-eqb, ne-eqb}
 use lib.Pow.{pow-pos, pow-mono}
 use Rattle.numbers.specs.Intervals.{span}
 use Rattle.numbers.specs.declared.Bounds.the-variants.{Are}
-use Rattle.addresses.proofs.Masks.{prefix-fits}
 use Rattle.addresses.specs.Addresses.{sizeOf, prefixOf}
+use Rattle.addresses.proofs.Masks.{prefix-fits}
 use Rattle.addresses.proofs.prefix.Statement.{statement}
 use Rattle.addresses.proofs.prefix.Tie as tie
 

@@ -2,10 +2,10 @@
 use mathlib.Core.Path.{sym, ap, _∙_}
 use borrow.Author.Needs.{needs}
 use borrow.Author.Tests.{eq-eqb, ne-eqb}
-use Rattle.numbers.proofs.Reckoning.{decimal-le}
-use Rattle.numbers.specs.declared.Number.the-variants.{Is}
 use Rattle.parts.specs.Parts.{part}
 use Rattle.parts.specs.Words.{dot}
+use Rattle.numbers.specs.declared.Number.the-variants.{Is}
+use Rattle.numbers.proofs.Reckoning.{decimal-le}
 use Rattle.addresses.specs.Addresses.{quadOf}
 use Rattle.addresses.proofs.quad.Statement.{statement}
 use Rattle.addresses.proofs.quad.Tie as tie

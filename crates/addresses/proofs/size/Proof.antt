@@ -2,8 +2,8 @@
 use mathlib.Core.Path.{ap, _∙_}
 use native.Mathlib.Omega.{arith}
 use borrow.Author.Needs.{needs}
-use Rattle.addresses.proofs.Tables.{entry}
 use Rattle.addresses.specs.Addresses.{sizeOf}
+use Rattle.addresses.proofs.Tables.{entry}
 use Rattle.addresses.proofs.size.Statement.{statement}
 use Rattle.addresses.proofs.size.Tie as tie
 

@@ -37,7 +37,7 @@ use sound.WpLaws.{FmC, fmOf, WpFn-mono}
 use types.Kit.{Given, ‵, raw, _⊛_, ⋆, some, later, _$_, _∵_, !, qed, by, move, drop, use1, split, rewrite, pick, fjoin, suffices, frame, await}
 use types.Part.{whole, sub, look-in, agg}
 use types.Run.{look, init, forget, stop, fld, from, load, of-opd, and-then, no-more, assigns, land, returns, enter, alloc1, alloc0, params1, pass1, pass0, free1, free0}
-use Rattle.lines.specs.Reader.{afterOf}
+use Rattle.lines.specs.Reader.{nextOf}
 use Rattle.lines.specs.declared.Cursor.{Cursor}
 use Rattle.lines.specs.declared.Lines.{Lines}
 use Rattle.lines.proofs.Cursor as K
@@ -91,7 +91,7 @@ module _ {M : Type 1} (𝓤 : URA M) (H : Heap 𝓤) (A : Atoms 𝓤) (W : Given
     to = (((κ, tt), (q, tt), tt, (reader, tt), (T′.lowered reader ∷ [], tt)), tt)
 
     abbrev Said : Lines → Type 0
-    Said r = r ≡ afterOf reader
+    Said r = r ≡ nextOf reader
 
     abbrev told : Lines → SProp 𝓤
     told r = ensured 𝓤 H A next.ended (next.clauses 𝓤 H A mem run) (κ, tt) (reader, tt) tt r

@@ -4,8 +4,8 @@ use native.Mathlib.Omega.{arith}
 use Prim.Native.Nat.{_+_, _-_}
 use borrow.Author.Needs.{needs}
 use lib.ListN.{length}
-use Rattle.lines.proofs.Stepping.{nearer}
 use Rattle.parts.specs.Parts.{shown}
+use Rattle.lines.proofs.Stepping.{nearer}
 use Rattle.lookup.proofs.Seeking.{Seeks, line-told, seek-first, seek-none, seek-found, seek-past, seek-other}
 use Rattle.lookup.proofs.find.Statement.{statement}
 use Rattle.lookup.proofs.find.Tie as tie

@@ -5,9 +5,9 @@ use native.Mathlib.Omega.{arith}
 use Prim.Native.Nat.{_+_, _-_, _*_, _≤_}
 use borrow.Author.Needs.{needs}
 use lib.ListN.{length, drop, getD, drop-of-length-le}
-use Rattle.numbers.proofs.Reckoning.{value-grows, value-at, digit-low, digit-high, digit-good, decimal-is, decimal-unplain, decimal-letters, decimal-large}
 use Rattle.numbers.specs.Decimals.{plain, digits, value}
 use Rattle.numbers.specs.declared.Number.the-variants.{Is}
+use Rattle.numbers.proofs.Reckoning.{value-grows, value-at, digit-low, digit-high, digit-good, decimal-is, decimal-unplain, decimal-letters, decimal-large}
 use Rattle.numbers.proofs.decimal.Statement.{statement}
 use Rattle.numbers.proofs.decimal.Tie as tie
 

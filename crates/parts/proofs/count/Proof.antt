@@ -4,8 +4,8 @@ use native.Mathlib.Omega.{arith}
 use Prim.Native.Nat.{_+_, _-_, _≤_}
 use borrow.Author.Needs.{needs}
 use lib.ListN.{length, drop}
-use Rattle.parts.proofs.Parting.{at-separator, other-count, at-end}
 use Rattle.parts.specs.Parts.{parts}
+use Rattle.parts.proofs.Parting.{at-separator, other-count, at-end}
 use Rattle.parts.proofs.count.Statement.{statement}
 use Rattle.parts.proofs.count.Tie as tie
 

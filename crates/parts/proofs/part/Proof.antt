@@ -1,12 +1,12 @@
 -- The invariant: the part wanted is the one that many parts after the one at start. Assumes nothing.
 use mathlib.Core.List.{List, []}
-use mathlib.Core.Path.{_≡_, refl, ap, sym, _∙_}
+use mathlib.Core.Path.{_≡_, ap, sym, _∙_}
 use native.Mathlib.Omega.{arith}
 use Prim.Native.Nat.{ℕ, suc, _+_, _-_, _≤_}
 use borrow.Author.Needs.{needs}
 use lib.ListN.{length, drop, getD, take}
-use Rattle.parts.proofs.Parting.{pieces-next, pieces-last, piece-here}
 use Rattle.parts.specs.Parts.{Piece, parts, piecesFrom, piece, shown}
+use Rattle.parts.proofs.Parting.{pieces-next, pieces-last, piece-here}
 use Rattle.parts.proofs.part.Statement.{statement}
 use Rattle.parts.proofs.part.Tie as tie
 

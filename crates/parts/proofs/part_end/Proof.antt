@@ -5,8 +5,8 @@ use native.Mathlib.Omega.{arith}
 use Prim.Native.Nat.{ℕ, _+_, _-_, _≤_}
 use borrow.Author.Needs.{needs}
 use lib.ListN.{length, drop, getD}
-use Rattle.parts.proofs.Parting.{at-separator, other-first, at-end}
 use Rattle.parts.specs.Parts.{part}
+use Rattle.parts.proofs.Parting.{at-separator, other-first, at-end}
 use Rattle.parts.proofs.part_end.Statement.{statement}
 use Rattle.parts.proofs.part_end.Tie as tie
 

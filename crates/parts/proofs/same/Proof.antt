@@ -6,8 +6,8 @@ use Prim.Native.Nat.{_+_, _-_, _≤_}
 use borrow.Author.Needs.{needs}
 use borrow.Author.Tests.{eq-eqb, ne-eqb}
 use lib.ListN.{length, drop, getD}
-use Rattle.parts.proofs.Bytes.{same-length, same-at, same-end}
 use Rattle.parts.specs.Parts.{same}
+use Rattle.parts.proofs.Bytes.{same-length, same-at, same-end}
 use Rattle.parts.proofs.same.Statement.{statement}
 use Rattle.parts.proofs.same.Tie as tie
 

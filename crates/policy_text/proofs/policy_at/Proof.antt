@@ -1,8 +1,8 @@
 -- The line's bytes are what `policy_line` reads. Assumes nothing.
 use mathlib.Core.Path.{ap, _∙_}
 use borrow.Author.Needs.{needs}
-use Rattle.lines.specs.Reader.{lineFrom}
 use Rattle.parts.proofs.Parting.{shown-bytes}
+use Rattle.lines.specs.Reader.{lineFrom}
 use Rattle.policy_text.specs.PolicyTexts.{policyLine}
 use Rattle.policy_text.proofs.policy_at.Statement.{statement}
 use Rattle.policy_text.proofs.policy_at.Tie as tie

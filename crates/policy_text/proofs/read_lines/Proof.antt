@@ -5,8 +5,8 @@ use Prim.Native.Nat.{_+_, _-_}
 use borrow.Author.Needs.{needs}
 use lib.ListN.{length}
 use Rattle.lines.proofs.Stepping.{nearer}
-use Rattle.policy_text.proofs.PolicyReading.{Read, read-none, read-all, has-room, few-asked, read-skip, read-ask, read-but, read-stop}
 use Rattle.policy_text.specs.declared.PolicyLine.the-variants.{Ask, But}
+use Rattle.policy_text.proofs.PolicyReading.{Read, read-none, read-all, has-room, few-asked, read-skip, read-ask, read-but, read-stop}
 use Rattle.policy_text.proofs.read_lines.Statement.{statement}
 use Rattle.policy_text.proofs.read_lines.Tie as tie
 

@@ -3,8 +3,8 @@ use mathlib.Core.Path.{_≡_, sym, ap, _∙_}
 use borrow.Author.Needs.{needs}
 use borrow.Author.Tests.{eq-eqb, ne-eqb}
 use Rattle.sets.specs.declared.Refusal.{Refusal}
-use Rattle.texts.proofs.Reading.{unrefused-fits}
 use Rattle.texts.specs.Texts.{refuseText}
+use Rattle.texts.proofs.Reading.{unrefused-fits}
 use Rattle.policy_text.specs.PolicyTexts.{nothingAsked, noneAsked, readPolicy}
 use Rattle.policy_text.proofs.read_policy.Statement.{statement}
 use Rattle.policy_text.proofs.read_policy.Tie as tie

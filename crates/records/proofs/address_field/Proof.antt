@@ -1,9 +1,9 @@
 -- The field's bytes are what `address` reads. Assumes nothing.
 use mathlib.Core.Path.{ap, _∙_}
 use borrow.Author.Needs.{needs}
-use Rattle.addresses.specs.Addresses.{addressOf}
-use Rattle.parts.proofs.Parting.{shown-bytes}
 use Rattle.parts.specs.Fields.{fieldPiece}
+use Rattle.parts.proofs.Parting.{shown-bytes}
+use Rattle.addresses.specs.Addresses.{addressOf}
 use Rattle.records.proofs.address_field.Statement.{statement}
 use Rattle.records.proofs.address_field.Tie as tie
 

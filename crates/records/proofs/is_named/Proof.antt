@@ -3,9 +3,9 @@ use mathlib.Core.List.{List}
 use mathlib.Core.Path.{ap, _∙_}
 use Prim.Native.Nat.{ℕ}
 use borrow.Author.Needs.{needs}
-use Rattle.parts.proofs.Parting.{shown-bytes}
 use Rattle.parts.specs.Fields.{fieldPiece}
 use Rattle.parts.specs.Parts.{same}
+use Rattle.parts.proofs.Parting.{shown-bytes}
 use Rattle.records.proofs.is_named.Statement.{statement}
 use Rattle.records.proofs.is_named.Tie as tie
 

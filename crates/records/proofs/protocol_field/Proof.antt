@@ -1,8 +1,8 @@
 -- The field's bytes are what `protocol` reads. Assumes nothing.
 use mathlib.Core.Path.{ap, _∙_}
 use borrow.Author.Needs.{needs}
-use Rattle.parts.proofs.Parting.{shown-bytes}
 use Rattle.parts.specs.Fields.{fieldPiece}
+use Rattle.parts.proofs.Parting.{shown-bytes}
 use Rattle.records.specs.Services.{protocolOf}
 use Rattle.records.proofs.protocol_field.Statement.{statement}
 use Rattle.records.proofs.protocol_field.Tie as tie

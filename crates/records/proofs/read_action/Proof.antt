@@ -3,10 +3,10 @@ use mathlib.Core.List.{List}
 use mathlib.Core.Path.{sym, ap, _∙_}
 use Prim.Native.Nat.{ℕ}
 use borrow.Author.Needs.{needs}
-use Rattle.parts.proofs.Parting.{shown-bytes}
 use Rattle.parts.specs.Fields.{fieldPiece}
 use Rattle.parts.specs.Parts.{same}
 use Rattle.parts.specs.Words.{bytes}
+use Rattle.parts.proofs.Parting.{shown-bytes}
 use Rattle.records.specs.Records.{readAction}
 use Rattle.records.proofs.read_action.Statement.{statement}
 use Rattle.records.proofs.read_action.Tie as tie

@@ -4,8 +4,8 @@ use mathlib.Core.Path.{_≡_, sym, ap, _∙_}
 use borrow.Author.Needs.{needs}
 use borrow.Author.Tests.{eq-eqb, ne-eqb}
 use Rattle.sets.specs.declared.Refusal.{Refusal}
-use Rattle.texts.proofs.Reading.{unrefused-fits}
 use Rattle.texts.specs.Texts.{refuseText}
+use Rattle.texts.proofs.Reading.{unrefused-fits}
 use Rattle.rule_text.specs.RuleTexts.{noRules, readRules}
 use Rattle.rule_text.proofs.read_rules.Statement.{statement}
 use Rattle.rule_text.proofs.read_rules.Tie as tie

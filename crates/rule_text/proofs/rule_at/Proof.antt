@@ -1,8 +1,8 @@
 -- The line's bytes are what `rule_line` reads. Assumes nothing.
 use mathlib.Core.Path.{ap, _∙_}
 use borrow.Author.Needs.{needs}
-use Rattle.lines.specs.Reader.{lineFrom}
 use Rattle.parts.proofs.Parting.{shown-bytes}
+use Rattle.lines.specs.Reader.{lineFrom}
 use Rattle.rule_text.specs.RuleTexts.{ruleLine}
 use Rattle.rule_text.proofs.rule_at.Statement.{statement}
 use Rattle.rule_text.proofs.rule_at.Tie as tie

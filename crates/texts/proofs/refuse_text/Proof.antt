@@ -4,8 +4,8 @@ use native.Mathlib.Omega.{arith}
 use Prim.Native.Nat.{ℕ}
 use borrow.Author.Needs.{needs}
 use borrow.Author.Tests.{lt-ltb, le-ltb}
-use Rattle.parts.proofs.Parting.{parts-few}
 use Rattle.parts.specs.Words.{newline}
+use Rattle.parts.proofs.Parting.{parts-few}
 use Rattle.texts.specs.Texts.{mostBytes, refusal, refuseText}
 use Rattle.texts.proofs.refuse_text.Statement.{statement}
 use Rattle.texts.proofs.refuse_text.Tie as tie
