@@ -13,17 +13,6 @@ use Rattle.lines.proofs.after.Reads as after
 use Rattle.lines.proofs.current as current
 use Rattle.lines.proofs.line_at.Reads as line-at
 use Rattle.lines.proofs.next as next
-use Rattle.lines.proofs.start as start
-
-module _ (κs : Lfts 1) (a : Args start.signature κs) (r : Res start.signature κs) (s : AtExit start.ended κs) where
-  abbrev start-read : Read (In start.signature κs a) no-know (λ w. start.clauses (w .𝓤) (w .H) (w .𝓖 .A) (w .𝓜 .mem) (w .𝓡 .run) κs a .ensures tt r s)
-  start-read = all-models _ (λ w. r-last _) (λ w. refl) (λ w. refl) (λ w. refl)
-
-  abbrev pub StartPost : Type 0
-  StartPost = AllOf (start-read .tells)
-
-pub start-once : OneAnswer StartPost
-start-once κs a r s after after' e f = one-answer _ r s e f
 
 module _ (κs : Lfts 1) (a : Args current.signature κs) (r : Res current.signature κs) (s : AtExit current.ended κs) where
   abbrev current-read : Read (In current.signature κs a) no-know (λ w. current.clauses (w .𝓤) (w .H) (w .𝓖 .A) (w .𝓜 .mem) (w .𝓡 .run) κs a .ensures tt r s)

@@ -1,20 +1,24 @@
 -- "What reading carries from line to line is the text, the next place and the line number."
 use mathlib.Core.List.{List}
 use Prim.Native.Nat.{ℕ, _+_, min}
-use denote.Ref.{RefT, now}
+use denote.Ref.{now}
 use lib.ListN.{length, drop}
 use Rattle.parts.specs.Parts.{Piece, part}
 use Rattle.parts.specs.Words.{newline}
 use Rattle.lines.specs.declared.Cursor.{Cursor}
 use Rattle.lines.specs.declared.Lines.{Lines}
 
--- the line from a place on, without its byte 10; past the end, the empty part there
+-- the bytes of the line from a place on, without its byte 10; none past the end
+abbrev pub lineAt : List ℕ → ℕ → List ℕ
+lineAt text at = part newline (drop at text) 0
+
+-- that line with its place; past the end, the empty part there
 abbrev pub lineFrom : List ℕ → ℕ → Piece
-lineFrom text at = record { place = min at (length text); bytes = part newline (drop at text) 0 }
+lineFrom text at = record { place = min at (length text); bytes = lineAt text at }
 
 -- the place behind that line and its byte 10
 abbrev pub placeAfter : List ℕ → ℕ → ℕ
-placeAfter text at = (lineFrom text at .place + length (lineFrom text at .bytes)) + 1
+placeAfter text at = (min at (length text) + length (lineAt text at)) + 1
 
 -- the largest line number that 32 bits hold
 abbrev pub lastLine : ℕ
@@ -27,10 +31,6 @@ lineAfter line = min (line + 1) lastLine
 -- the cursor behind the line at a cursor
 abbrev pub cursorAfter : List ℕ → Cursor → Cursor
 cursorAfter text c = record { at = placeAfter text (c .at); line = lineAfter (c .line) }
-
--- the reader at a text's first line
-abbrev pub startOf : RefT (List ℕ) → Lines
-startOf text = record { text = text; at = 0; line = 1 }
 
 -- the reader behind its line
 abbrev pub nextOf : Lines → Lines

@@ -1,12 +1,12 @@
 // Reading a text line by line. What reading carries along is the text, the next place and the number of the line there: first as
 // a cursor beside the text, by value, then as a reader that holds the lent text itself. The functions on a reader take it apart
-// and call the covered ones; `line_at` and `after` make one of plain parameters, and are what everybody else calls. A line is
+// and call plain ones; `line_at` and `after` make one of plain parameters, and are what everybody else calls. A line is
 // handed back as a part of the caller's text, its address promised too. Every call answers for every place and number.
 
 ghost use mathlib.Core.Path.{_≡_};
 ghost use Rattle.contracts.specs.Answers.{seen};
 ghost use Rattle.parts.specs.Parts.{shown};
-ghost use Rattle.lines.specs.Reader.{lineFrom, placeAfter, lineAfter, cursorAfter, startOf, nextOf};
+ghost use Rattle.lines.specs.Reader.{lineFrom, placeAfter, lineAfter, cursorAfter, nextOf};
 
 // The byte that ends a line.
 pub const NEWLINE: u8 = b'\n';
@@ -52,17 +52,6 @@ fn line_after(line: u32) -> u32
     ensures { λ r. ⌜ r ≡ lineAfter line ⌝ }
 {
     if line < 4294967295 { line + 1 } else { line }
-}
-
-// The reader at a text's first line.
-pub fn start<'a>(text: &'a [u8]) -> Lines<'a>
-    ensures { λ r. ⌜ r ≡ startOf (text .entry) ⌝ }
-{
-    Lines {
-        text,
-        at: 0,
-        line: 1,
-    }
 }
 
 // The line at a reader, as a part of the text.

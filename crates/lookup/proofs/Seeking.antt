@@ -14,8 +14,9 @@ use Rattle.contracts.specs.Answers.{seen}
 use Rattle.parts.specs.Parts.{Piece, parts, piecesFrom, shown}
 use Rattle.parts.specs.Words.{newline}
 use Rattle.parts.proofs.Parting.{part-here, parts-last, pieces-next, pieces-last, part-fits, at-end, shown-bytes}
-use Rattle.lines.specs.Reader.{lineFrom, cursorAfter}
+use Rattle.lines.specs.Reader.{lineAt, lineFrom, cursorAfter}
 use Rattle.lines.specs.declared.Cursor.{Cursor}
+use Rattle.lines.proofs.Stepping.{place-after}
 use Rattle.records.specs.Records.{named}
 use Rattle.lookup.specs.Lookups.{recordsAmong, nowhere, numberOf, recordOf}
 
@@ -49,19 +50,16 @@ unlike-empty : (word : List ℕ) → 0 < length word → named word [] ≡ false
 unlike-empty [] h = absurd (not-suc-le-zero h)
 unlike-empty (x ∷ xs) h = refl
 
--- the records among the lines of a text from a place on, and the line there
+-- the records among the lines of a text from a place on
 abbrev rest : List ℕ → List ℕ → ℕ → List Piece
 rest word t at = recordsAmong word (piecesFrom at (parts newline (drop at t)))
 
-abbrev line : List ℕ → ℕ → List ℕ
-line t at = lineFrom t at .bytes
-
 -- the place behind it
 abbrev after : List ℕ → ℕ → ℕ
-after t at = (at + length (line t at)) + 1
+after t at = (at + length (lineAt t at)) + 1
 
 -- what is told of the line's bytes is told of the line
-pub line-told : (s r : RefT (List ℕ)) (at : ℕ) (word : List ℕ) (told : Bool) → seen r ≡ shown s (lineFrom (s .now) at) → told ≡ named word (r .now) → named word (line (s .now) at) ≡ told
+pub line-told : (s r : RefT (List ℕ)) (at : ℕ) (word : List ℕ) (told : Bool) → seen r ≡ shown s (lineFrom (s .now) at) → told ≡ named word (r .now) → named word (lineAt (s .now) at) ≡ told
 line-told s r at word told e f = ap (named word) (sym (shown-bytes s r (lineFrom (s .now) at) e)) ∙ sym f
 
 -- where the search stands: the record wanted is that one, counted from the cursor on
@@ -79,25 +77,25 @@ module _ (word : List ℕ) (some-word : 0 < length word) (t : List ℕ) where
 
   -- the line there is looked at before those behind it
   first : (at : ℕ) → at ≤ length t
-      → rest word t at ≡ cond (named word (line t at)) (record { place = at; bytes = line t at } ∷ rest word t (after t at)) (rest word t (after t at))
+      → rest word t at ≡ cond (named word (lineAt t at)) (record { place = at; bytes = lineAt t at } ∷ rest word t (after t at)) (rest word t (after t at))
   first at h =
-      let end = at + length (line t at) in
-      let here : Piece = record { place = at; bytes = line t at } in
-      elim (decLt (at + length (line t at)) (length t)) [
+      let end = at + length (lineAt t at) in
+      let here : Piece = record { place = at; bytes = lineAt t at } in
+      elim (decLt (at + length (lineAt t at)) (length t)) [
         | yes l ↦
             ap (recordsAmong word)
             (pieces-next newline t at end refl h l
             ∙ ap (λ (x : List ℕ). record { place = at; bytes = x } ∷ piecesFrom (end + 1) (parts newline (drop (end + 1) t))) (sym (part-here newline t at end refl)))
         | no l ↦
-            let all : line t at ≡ drop at t = ap (λ (ps : List (List ℕ)). getD ps 0 []) (parts-last newline t at end refl (omega arith)) in
+            let all : lineAt t at ≡ drop at t = ap (λ (ps : List (List ℕ)). getD ps 0 []) (parts-last newline t at end refl (omega arith)) in
             ap (recordsAmong word) (pieces-last newline t at end refl h (omega arith) ∙ ap (λ (x : List ℕ). record { place = at; bytes = x } ∷ []) (sym all))
-            ∙ ap (λ (ps : List Piece). cond (named word (line t at)) (here ∷ ps) ps) (sym (over (end + 1) (omega arith)))
+            ∙ ap (λ (ps : List Piece). cond (named word (lineAt t at)) (here ∷ ps) ps) (sym (over (end + 1) (omega arith)))
       ]
 
-  first-is : (at : ℕ) → at ≤ length t → named word (line t at) ≡ true → rest word t at ≡ record { place = at; bytes = line t at } ∷ rest word t (after t at)
+  first-is : (at : ℕ) → at ≤ length t → named word (lineAt t at) ≡ true → rest word t at ≡ record { place = at; bytes = lineAt t at } ∷ rest word t (after t at)
   first-is at h e = first at h ∙ simp e
 
-  first-other : (at : ℕ) → at ≤ length t → named word (line t at) ≡ false → rest word t at ≡ rest word t (after t at)
+  first-other : (at : ℕ) → at ≤ length t → named word (lineAt t at) ≡ false → rest word t at ≡ rest word t (after t at)
   first-other at h e = first at h ∙ simp e
 
   module _ (n : ℕ) (c : Cursor) (left : ℕ) (h : Seeks word t n c left) where
@@ -106,35 +104,33 @@ module _ (word : List ℕ) (some-word : 0 < length word) (t : List ℕ) where
 
     -- one turn: the line at the cursor is a record or not
     module _ (inside : c .at < length t) where
-      pub seek-found : named word (line t (c .at)) ≡ true → left ≡ 1 → recordOf word t n ≡ lineFrom t (c .at)
+      pub seek-found : named word (lineAt t (c .at)) ≡ true → left ≡ 1 → recordOf word t n ≡ lineFrom t (c .at)
       seek-found e one =
           let here : c .at ≡ min (c .at) (length t) = omega arith in
           h .wanted
           ∙ ap (numberOf left) (first-is (c .at) (omega arith) e)
-          ∙ number-first left (record { place = c .at; bytes = line t (c .at) }) (rest word t (after t (c .at))) one
-          ∙ ap (λ (k : ℕ). record { place = k; bytes = line t (c .at) }) here
+          ∙ number-first left (record { place = c .at; bytes = lineAt t (c .at) }) (rest word t (after t (c .at))) one
+          ∙ ap (λ (k : ℕ). record { place = k; bytes = lineAt t (c .at) }) here
 
       module _ (c′ : Cursor) (moved : c′ ≡ cursorAfter t c) where
         next-is : c′ .at ≡ after t (c .at)
-        next-is =
-            let here : min (c .at) (length t) ≡ c .at = omega arith in
-            ap (λ (x : Cursor). x .at) moved ∙ ap (λ (k : ℕ). (k + length (line t (c .at))) + 1) here
+        next-is = ap (λ (x : Cursor). x .at) moved ∙ place-after t (c .at) (omega arith)
 
         next-within : c′ .at ≤ length t + 1
-        next-within = omega (arith, next-is, part-fits newline t (c .at) (c .at + length (line t (c .at))) refl (omega arith))
+        next-within = omega (arith, next-is, part-fits newline t (c .at) (c .at + length (lineAt t (c .at))) refl (omega arith))
 
-        pub seek-past : named word (line t (c .at)) ≡ true → (left ≡ 1 → ⊥) → (left′ : ℕ) → left′ ≡ left - 1 → Seeks word t n c′ left′
+        pub seek-past : named word (lineAt t (c .at)) ≡ true → (left ≡ 1 → ⊥) → (left′ : ℕ) → left′ ≡ left - 1 → Seeks word t n c′ left′
         seek-past e other left′ less =
             record {
               within = next-within;
               wanted =
                   h .wanted
                   ∙ ap (numberOf left) (first-is (c .at) (omega arith) e)
-                  ∙ number-past left left′ (record { place = c .at; bytes = line t (c .at) }) (rest word t (after t (c .at))) other less
+                  ∙ number-past left left′ (record { place = c .at; bytes = lineAt t (c .at) }) (rest word t (after t (c .at))) other less
                   ∙ ap (λ (k : ℕ). numberOf left′ (rest word t k)) (sym next-is);
             }
 
-        pub seek-other : named word (line t (c .at)) ≡ false → Seeks word t n c′ left
+        pub seek-other : named word (lineAt t (c .at)) ≡ false → Seeks word t n c′ left
         seek-other e =
             record {
               within = next-within;

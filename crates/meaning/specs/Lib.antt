@@ -9,7 +9,9 @@
 -- one of its cases says so. Terms: `f x y` is f at x and y, `λ x. e` the function that takes x to e, `r .field` a field of a record,
 -- `.0` and `.1` the parts of a pair. What stands in braces, `Type`, and the marks `abbrev`, `unfoldable` and `pub` are for the prover.
 -- In the other crates: `«a_b»` is the name a_b, `replicate n x` is a list of n times x, and a contract in `src/` stands between ⌜ and ⌝,
--- where r is the answer.
+-- where r is the answer. There `now s` are the bytes of a lent slice s, `s .entry` is what it is when the call begins, and `.ptr` is its
+-- address: a block of memory, and the place in it. `code "x"` is the number of a character. `a - b` is 0 where b is larger, `%` is the
+-- remainder, `^` a power, `min` the smaller. What stands after `module _` belongs to every definition below it.
 pub mod Fields
 pub mod Blocks
 pub mod Records

@@ -12,6 +12,7 @@ use Rattle.numbers.specs.declared.Bounds.the-variants.{Are, Unread, NoSp
 use Rattle.numbers.specs.declared.Bounds.{Bounds}
 use Rattle.numbers.specs.declared.Number.{Number}
 
+-- the numbers from low to high
 abbrev pub span : ℕ → ℕ → Span
 span low high = record { low = low; high = high }
 

@@ -24,7 +24,7 @@ pub enum Bounds {
 }
 
 // Whether a decimal number may begin so: not empty, and no leading zero.
-fn begins(text: &[u8]) -> bool
+fn is_plain(text: &[u8]) -> bool
     ensures { λ r. ⌜ r ≡ plain (now (text .entry)) ⌝ }
 {
     if text.len() == 0 {
@@ -40,7 +40,7 @@ fn begins(text: &[u8]) -> bool
 pub fn decimal(text: &[u8], most: u32) -> Number
     ensures { λ r. ⌜ r ≡ decimalOf most (now (text .entry)) ⌝ }
 {
-    if begins(text) {
+    if is_plain(text) {
         let mut value: u32 = 0;
         let mut i: usize = 0;
         while i < text.len() {

@@ -31,6 +31,7 @@ abbrev pub piecesFrom : ℕ → List (List ℕ) → List Piece
 piecesFrom at [] = []
 piecesFrom at (p ∷ ps) = record { place = at; bytes = p } ∷ piecesFrom ((at + length p) + 1) ps
 
+-- the parts of a whole text, with their places
 abbrev pub pieces : ℕ → List ℕ → List Piece
 pieces sep xs = piecesFrom 0 (parts sep xs)
 

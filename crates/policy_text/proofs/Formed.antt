@@ -1,6 +1,6 @@
 -- What a policy text is read as is in form and zero past its counts; a refused one is read as the empty set. Assumes nothing.
 use mathlib.Core.Bool.{Bool, true, false, cond, not}
-use mathlib.Core.List.{List, [], _∷_, _++_, map}
+use mathlib.Core.List.{List, [], _∷_, _++_, map, map-append}
 use mathlib.Core.Option.{some}
 use mathlib.Core.Path.{_≡_, refl, ap, sym, subst, _∙_}
 use native.Mathlib.Omega.{arith}
@@ -28,7 +28,7 @@ use Rattle.sets.specs.declared.Exception.{Exception}
 use Rattle.sets.specs.declared.Refusal.{Refusal}
 use Rattle.sets.proofs.Padding.{nothing-asked, policy-zero, policy-unrefused, all-more}
 use Rattle.texts.specs.Texts.{Said, goes, stops, refusal}
-use Rattle.texts.proofs.Reading.{Keeps, kept}
+use Rattle.texts.proofs.Reading.{Keeps, kept, answered}
 use Rattle.records.specs.Records.{skipped, named, readBlock, onBlock, readFive, onFive}
 use Rattle.records.specs.declared.BlockRead.the-variants as block
 use Rattle.records.specs.declared.BlockRead.{BlockRead}
@@ -39,49 +39,7 @@ use Rattle.policy_text.specs.PolicyTexts.{butFields, askLine, butLine, p
 use Rattle.policy_text.specs.declared.PolicyLine.the-variants.{Skipped, Ask, But, Not}
 use Rattle.policy_text.specs.declared.PolicyLine.{PolicyLine}
 use Rattle.policy_text.specs.declared.PolicyRead.{PolicyRead}
-use Rattle.policy_text.proofs.PolicyReading.{Room, room}
-
--- a directive that a line says is in form; an exception is in form and lies inside the directive above
-abbrev LineInForm : Block → PolicyLine → Type 0
-LineInForm above Skipped = Unit {0}
-LineInForm above (Ask d) = inForm (directiveOf d) ≡ true
-LineInForm above (But b) = (inside (blockOf b) (blockOf above) ≡ true) × (blockInForm fields (blockOf b) ≡ true)
-LineInForm above (Not number field) = Unit {0}
-
-module _ (asked excepted : ℕ) (above : Block) (line : List ℕ) where
-  ask-in-form : LineInForm above (askLine asked line)
-  unfolding askLine
-  ask-in-form = go (readFive (leb mostDirectives asked) line) (read-five-in-form (leb mostDirectives asked) line)
-    where
-      go : (x : FiveRead) → FiveInForm (leb mostDirectives asked) x → LineInForm above (onFive x Not (λ e d. Ask (record { action = e; block = d })))
-      go (five.Not number field) h = tt
-      go (five.Are e d) h = h .1
-
-  but-in-form : LineInForm above (butLine asked excepted above line)
-  unfolding butLine butFields
-  but-in-form = go (not (eqb (fieldCount line) 5)) (eqb asked 0) (leb mostExceptions excepted) (readBlock line 2) (read-block-in-form line 2)
-    where
-      lies : (d : Block) (b : Bool) → inside (blockOf d) (blockOf above) ≡ b → blockInForm fields (blockOf d) ≡ true → LineInForm above (cond b (But d) (Not 12 0))
-      lies d true e h = (e, h)
-      lies d false e h = tt
-
-      go : (a z b : Bool) (y : BlockRead) → ReadInForm y
-          → LineInForm above (cond a (Not 4 0) (cond z (Not 11 0) (cond b (Not 13 0) (onBlock y Not (λ d. cond (inside (blockOf d) (blockOf above)) (But d) (Not 12 0))))))
-      go true z b y h = tt
-      go false true b y h = tt
-      go false false true y h = tt
-      go false false false (block.Not number field) h = tt
-      go false false false (block.Is d) h = lies d (inside (blockOf d) (blockOf above)) refl h
-
-  line-in-form : LineInForm above (policyLine asked excepted above line)
-  unfolding policyLine
-  line-in-form = go (skipped line) (named (bytes "ask") line) (named (bytes "but") line)
-    where
-      go : (a b c : Bool) → LineInForm above (cond a Skipped (cond b (askLine asked line) (cond c (butLine asked excepted above line) (Not 3 1))))
-      go true b c = tt
-      go false true c = ask-in-form
-      go false false true = but-in-form
-      go false false false = tt
+use Rattle.policy_text.proofs.PolicyReading.{SaidRight, said-right}
 
 -- what every line keeps: not too many records, all in form, and no exception names a directive that is still to come
 record Kept (s : Asked) : Type 0 where
@@ -90,10 +48,6 @@ record Kept (s : Asked) : Type 0 where
   pub asked-in-form : allOf inForm (map directiveOf (s .directives)) ≡ true
   pub excepted-in-form : T (exceptionsInForm fields (map directiveOf (s .directives)) 0 (map exceptionOf (s .exceptions)))
   pub named-so-far : lastNamed 0 (map exceptionOf (s .exceptions)) ≤ length (s .directives)
-
-map-more : {A B : Type 0} (f : A → B) (xs : List A) (x : A) → map f (xs ++ (x ∷ [])) ≡ map f xs ++ (f x ∷ [])
-map-more f [] x = refl
-map-more f (y ∷ xs) x = ap (λ (ys : List _). f y ∷ ys) (map-more f xs x)
 
 -- the directive whose number is their count is the nearest
 nearest-numbered : (ds : List Directive) → 0 < length ds → (d : Rule) × (numbered (map directiveOf ds) (length ds) ≡ some d) × (d .block ≡ blockOf (nearest ds))
@@ -109,7 +63,7 @@ kept-ask s d h spare formed =
       few-excepted = h .few-excepted;
       asked-in-form = all-more directiveOf inForm (s .directives) d (h .asked-in-form) formed;
       excepted-in-form =
-          subst (λ (ds : List Rule). T (exceptionsInForm fields ds 0 (map exceptionOf (s .exceptions)))) (sym (map-more directiveOf (s .directives) d))
+          subst (λ (ds : List Rule). T (exceptionsInForm fields ds 0 (map exceptionOf (s .exceptions)))) (sym (map-append directiveOf (s .directives) (d ∷ [])))
           (directive-added fields (map directiveOf (s .directives)) (directiveOf d) 0 (map exceptionOf (s .exceptions)) (h .excepted-in-form));
       named-so-far = omega (arith, h .named-so-far, length-append (s .directives) (d ∷ []));
     }
@@ -119,7 +73,7 @@ kept-but : (s : Asked) (b : Block) → Kept s → 0 < length (s .directives) →
 kept-but s b h some-asked spare lies formed =
     let e : Exception = record { directive = length (s .directives); block = b } in
     let last = nearest-numbered (s .directives) some-asked in
-    let more = map-more exceptionOf (s .exceptions) e in
+    let more = map-append exceptionOf (s .exceptions) (e ∷ []) in
     record {
       few-asked = h .few-asked;
       few-excepted = omega (arith, length-append (s .exceptions) (e ∷ []));
@@ -144,13 +98,13 @@ module _ (s : Asked) where
   above = nearest (s .directives)
 
   keeps : (line : List ℕ) → Kept s → Keeps Kept (saidPolicy s line)
-  keeps line h = go (policyLine asked excepted above line) (room asked excepted above line) (line-in-form asked excepted above line)
+  keeps line h = go (policyLine asked excepted above line) (said-right asked excepted above line)
     where
-      go : (o : PolicyLine) → Room asked excepted o → LineInForm above o → Keeps Kept (onPolicyLine o (goes s) (λ d. goes (ask s d)) (λ b. goes (but s b)) stops)
-      go Skipped e f = h
-      go (Ask d) e f = kept-ask s d h e f
-      go (But b) e f = kept-but s b h (e .0) (e .1) (f .0) (f .1)
-      go (Not number field) e f = tt
+      go : (o : PolicyLine) → SaidRight asked excepted above o → Keeps Kept (onPolicyLine o (goes s) (λ d. goes (ask s d)) (λ b. goes (but s b)) stops)
+      go Skipped e = h
+      go (Ask d) e = kept-ask s d h (e .0) (e .1)
+      go (But b) e = kept-but s b h (e .0) (e .1) (e .2) (e .3)
+      go (Not number field) e = tt
 
 -- 14 never applies to what was read, and it is zero past its counts
 abbrev Right : PolicyRead → Type 0
@@ -182,9 +136,4 @@ Empty r = (r .refusal .number ≡ 0 → ⊥) → r .policy ≡ emptyPolicy
 
 pub policy-refused-empty : (text : List ℕ) → (readPolicy text .refusal .number ≡ 0 → ⊥) → readPolicy text .policy ≡ emptyPolicy
 unfolding readPolicy
-policy-refused-empty text =
-    kept saidPolicy allAsked noneAsked (λ s. Unit {0}) Empty (λ s line h. anything (saidPolicy s line)) (λ s h some. absurd (some refl)) (λ s r some. nothing-asked) nothingAsked text tt
-  where
-    anything : (o : Said Asked) → Keeps (λ s. Unit {0}) o
-    anything (goes s) = tt
-    anything (stops number field) = tt
+policy-refused-empty text = answered saidPolicy allAsked noneAsked Empty (λ s some. absurd (some refl)) (λ s r some. nothing-asked) nothingAsked text

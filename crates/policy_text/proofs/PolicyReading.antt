@@ -8,71 +8,76 @@ use borrow.Author.Tests.{leb-false, eqb-false}
 use lib.Dec.{eqb, leb}
 use lib.ListN.{length, length-append}
 use Rattle.meaning.specs.Blocks.{inside}
-use Rattle.meaning.specs.Form.{mostDirectives, mostExceptions}
+use Rattle.meaning.specs.Fields.{fields}
+use Rattle.meaning.specs.Form.{mostDirectives, mostExceptions, blockInForm}
 use Rattle.parts.specs.Fields.{fieldCount}
 use Rattle.parts.specs.Words.{bytes}
 use Rattle.blocks.specs.Vocabulary.{blockOf}
 use Rattle.blocks.specs.declared.Block.{Block}
 use Rattle.sets.specs.Empty.{zeroBlock, zeroDirective, zeroException}
+use Rattle.sets.specs.Inner.{inForm}
+use Rattle.sets.specs.Vocabulary.{directiveOf}
 use Rattle.sets.specs.Listed.{padded, policySet}
 use Rattle.sets.specs.declared.Directive.{Directive}
 use Rattle.sets.specs.declared.Policy.{Policy}
 use Rattle.sets.proofs.Padding.{padded-set}
-use Rattle.lines.specs.Reader.{cursorAfter}
+use Rattle.lines.specs.Reader.{lineAt, cursorAfter}
 use Rattle.lines.specs.declared.Cursor.{Cursor}
 use Rattle.texts.specs.Texts.{mostBytes, refusal, linesOf, Said, goes, stops, readFrom}
-use Rattle.texts.proofs.Reading.{Reading, lineAt, begun, stepped, halted, finished}
+use Rattle.texts.proofs.Reading.{Reading, begun, stepped, halted, finished}
 use Rattle.records.specs.Records.{skipped, named, readBlock, onBlock, readFive, onFive}
 use Rattle.records.specs.declared.BlockRead.the-variants as block
 use Rattle.records.specs.declared.BlockRead.{BlockRead}
 use Rattle.records.specs.declared.FiveRead.the-variants as five
 use Rattle.records.specs.declared.FiveRead.{FiveRead}
-use Rattle.records.proofs.Forming.{FiveInForm, read-five-in-form}
+use Rattle.records.proofs.Forming.{ReadInForm, read-block-in-form, FiveInForm, read-five-in-form}
 use Rattle.policy_text.specs.Inner.{askAdded, butAdded}
 use Rattle.policy_text.specs.PolicyTexts.{butFields, askLine, butLine, policyLine, Asked, nothingAsked, nearest, ask, but, onPolicyLine, saidPolicy, allAsked, noneAsked}
 use Rattle.policy_text.specs.declared.PolicyLine.the-variants.{Skipped, Ask, But, Not}
 use Rattle.policy_text.specs.declared.PolicyLine.{PolicyLine}
 
--- a directive or an exception is read only where there is room for it, and an exception only below a directive
-abbrev pub Room : ℕ → ℕ → PolicyLine → Type 0
-Room asked excepted Skipped = Unit {0}
-Room asked excepted (Ask d) = asked < mostDirectives
-Room asked excepted (But b) = (0 < asked) × (excepted < mostExceptions)
-Room asked excepted (Not number field) = Unit {0}
+-- what a line says came where there was room for it and is in form; an exception stands below a directive and lies inside the nearest
+abbrev pub SaidRight : ℕ → ℕ → Block → PolicyLine → Type 0
+SaidRight asked excepted above Skipped = Unit {0}
+SaidRight asked excepted above (Ask d) = (asked < mostDirectives) × (inForm (directiveOf d) ≡ true)
+SaidRight asked excepted above (But b) =
+    (0 < asked) × (excepted < mostExceptions) × (inside (blockOf b) (blockOf above) ≡ true) × (blockInForm fields (blockOf b) ≡ true)
+SaidRight asked excepted above (Not number field) = Unit {0}
 
 module _ (asked excepted : ℕ) (above : Block) (line : List ℕ) where
-  ask-room : Room asked excepted (askLine asked line)
+  ask-right : SaidRight asked excepted above (askLine asked line)
   unfolding askLine
-  ask-room = go (readFive (leb mostDirectives asked) line) (read-five-in-form (leb mostDirectives asked) line)
+  ask-right = go (readFive (leb mostDirectives asked) line) (read-five-in-form (leb mostDirectives asked) line)
     where
-      go : (x : FiveRead) → FiveInForm (leb mostDirectives asked) x → Room asked excepted (onFive x Not (λ e d. Ask (record { action = e; block = d })))
+      go : (x : FiveRead) → FiveInForm (leb mostDirectives asked) x → SaidRight asked excepted above (onFive x Not (λ e d. Ask (record { action = e; block = d })))
       go (five.Not number field) h = tt
-      go (five.Are e d) h = leb-false mostDirectives asked (h .0)
+      go (five.Are e d) h = (leb-false mostDirectives asked (h .0), h .1)
 
-  but-room : Room asked excepted (butLine asked excepted above line)
+  but-right : SaidRight asked excepted above (butLine asked excepted above line)
   unfolding butLine butFields
-  but-room = go (not (eqb (fieldCount line) 5)) (eqb asked 0) refl (leb mostExceptions excepted) refl (readBlock line 2)
+  but-right = go (not (eqb (fieldCount line) 5)) (eqb asked 0) refl (leb mostExceptions excepted) refl (readBlock line 2) (read-block-in-form line 2)
     where
-      within : (d : Block) (b : Bool) → eqb asked 0 ≡ false → excepted < mostExceptions → Room asked excepted (cond b (But d) (Not 12 0))
-      within d true z h = (let some = eqb-false asked 0 z in omega arith, h)
-      within d false z h = tt
+      lies : (d : Block) (b : Bool) → inside (blockOf d) (blockOf above) ≡ b → eqb asked 0 ≡ false → excepted < mostExceptions → blockInForm fields (blockOf d) ≡ true
+          → SaidRight asked excepted above (cond b (But d) (Not 12 0))
+      lies d true e z h f = (let some = eqb-false asked 0 z in omega arith, h, e, f)
+      lies d false e z h f = tt
 
-      go : (a z : Bool) → eqb asked 0 ≡ z → (b : Bool) → leb mostExceptions excepted ≡ b → (y : BlockRead)
-          → Room asked excepted (cond a (Not 4 0) (cond z (Not 11 0) (cond b (Not 13 0) (onBlock y Not (λ d. cond (inside (blockOf d) (blockOf above)) (But d) (Not 12 0))))))
-      go true z e b h y = tt
-      go false true e b h y = tt
-      go false false e true h y = tt
-      go false false e false h (block.Not number field) = tt
-      go false false e false h (block.Is d) = within d (inside (blockOf d) (blockOf above)) e (leb-false mostExceptions excepted h)
+      go : (a z : Bool) → eqb asked 0 ≡ z → (b : Bool) → leb mostExceptions excepted ≡ b → (y : BlockRead) → ReadInForm y
+          → SaidRight asked excepted above (cond a (Not 4 0) (cond z (Not 11 0) (cond b (Not 13 0) (onBlock y Not (λ d. cond (inside (blockOf d) (blockOf above)) (But d) (Not 12 0))))))
+      go true z e b h y f = tt
+      go false true e b h y f = tt
+      go false false e true h y f = tt
+      go false false e false h (block.Not number field) f = tt
+      go false false e false h (block.Is d) f = lies d (inside (blockOf d) (blockOf above)) refl e (leb-false mostExceptions excepted h) f
 
-  pub room : Room asked excepted (policyLine asked excepted above line)
+  pub said-right : SaidRight asked excepted above (policyLine asked excepted above line)
   unfolding policyLine
-  room = go (skipped line) (named (bytes "ask") line) (named (bytes "but") line)
+  said-right = go (skipped line) (named (bytes "ask") line) (named (bytes "but") line)
     where
-      go : (a b c : Bool) → Room asked excepted (cond a Skipped (cond b (askLine asked line) (cond c (butLine asked excepted above line) (Not 3 1))))
+      go : (a b c : Bool) → SaidRight asked excepted above (cond a Skipped (cond b (askLine asked line) (cond c (butLine asked excepted above line) (Not 3 1))))
       go true b c = tt
-      go false true c = ask-room
-      go false false true = but-room
+      go false true c = ask-right
+      go false false true = but-right
       go false false false = tt
 
 -- an empty line says nothing
@@ -140,8 +145,9 @@ module _ (t : List ℕ) (c : Cursor) (p : Policy) (above : Block) (h : Read t c 
       ∙ sym said
       ∙ e)
 
-  pub has-room : (o′ : PolicyLine) → o ≡ o′ → Room (p .«directive_count») (p .«exception_count») o′
-  has-room o′ e = subst (Room (p .«directive_count») (p .«exception_count»)) (sym said ∙ e) (room (p .«directive_count») (p .«exception_count») above (lineAt t (c .at)))
+  pub right : (o′ : PolicyLine) → o ≡ o′ → SaidRight (p .«directive_count») (p .«exception_count») above o′
+  right o′ e =
+      subst (SaidRight (p .«directive_count») (p .«exception_count») above) (sym said ∙ e) (said-right (p .«directive_count») (p .«exception_count») above (lineAt t (c .at)))
 
   asked-is : p .«directive_count» ≡ length (h .s .directives)
   asked-is = ap (λ (x : Policy). x .«directive_count») (h .is)
@@ -157,7 +163,7 @@ module _ (t : List ℕ) (c : Cursor) (p : Policy) (above : Block) (h : Read t c 
 
   pub read-ask : (c′ : Cursor) (p′ : Policy) (d : Directive) → c′ ≡ cursorAfter t c → p′ ≡ askAdded p d → o ≡ Ask d → Read t c′ p′ (d .block)
   read-ask c′ p′ d q w e =
-      let spare = has-room (Ask d) e in
+      let spare = right (Ask d) e .0 in
       record {
         s = ask (h .s) d;
         few = omega (arith, asked-is, spare, length-append (h .s .directives) (d ∷ []));
@@ -171,7 +177,7 @@ module _ (t : List ℕ) (c : Cursor) (p : Policy) (above : Block) (h : Read t c 
       record {
         s = but (h .s) b;
         few = h .few;
-        is = w ∙ ap (λ (x : Policy). butAdded x b) (h .is) ∙ but-is (h .s) b (omega (arith, excepted-is, has-room (But b) e .1));
+        is = w ∙ ap (λ (x : Policy). butAdded x b) (h .is) ∙ but-is (h .s) b (omega (arith, excepted-is, right (But b) e .1));
         above-is = h .above-is;
         reading = stepped saidPolicy allAsked noneAsked says-nothing nothingAsked t (c .at) (c .line) (h .s) (h .reading) fits inside c′ q (but (h .s) b) (says (But b) e);
       }

@@ -22,15 +22,15 @@ use Rattle.policy_text.specs.declared.PolicyLine.the-variants.{Skipped, 
 use Rattle.policy_text.specs.declared.PolicyLine.{PolicyLine}
 use Rattle.policy_text.specs.declared.PolicyRead.{PolicyRead}
 
+-- an `ask` line, after so many directives
+unfoldable pub askLine : ℕ → List ℕ → PolicyLine
+askLine asked line = onFive (readFive (leb mostDirectives asked) line) Not (λ a b. Ask (record { action = a; block = b }))
+
 -- what a `but` line says in its fields, under a directive of this block: the fields, and then 12
 unfoldable pub butFields : Block → List ℕ → PolicyLine
 butFields above line =
     onBlock (readBlock line 2) Not (λ b.
     cond (inside (blockOf b) (blockOf above)) (But b) (Not 12 0))
-
--- an `ask` line, after so many directives
-unfoldable pub askLine : ℕ → List ℕ → PolicyLine
-askLine asked line = onFive (readFive (leb mostDirectives asked) line) Not (λ a b. Ask (record { action = a; block = b }))
 
 -- a `but` line, after so many directives and exceptions, under the nearest directive above
 unfoldable pub butLine : ℕ → ℕ → Block → List ℕ → PolicyLine
@@ -53,6 +53,7 @@ pub record Asked : Type 0 where
   pub directives : List Directive
   pub exceptions : List Exception
 
+-- at first nothing
 abbrev pub nothingAsked : Asked
 nothingAsked = record { directives = []; exceptions = [] }
 
@@ -69,6 +70,7 @@ ask s d = record { directives = s .directives ++ (d ∷ []); exceptions = s .exc
 abbrev pub but : Asked → Block → Asked
 but s b = record { directives = s .directives; exceptions = s .exceptions ++ (record { directive = length (s .directives); block = b } ∷ []) }
 
+-- by what the line says: nothing, a directive, an exception's block, a refusal
 abbrev pub onPolicyLine : {R : Type 0} → PolicyLine → R → (Directive → R) → (Block → R) → (ℕ → ℕ → R) → R
 onPolicyLine Skipped skip goAsk goBut stop = skip
 onPolicyLine (Ask d) skip goAsk goBut stop = goAsk d

@@ -34,7 +34,7 @@ use Rattle.records.specs.declared.Spans.{Spans}
 
 -- a span that does not fall and ends at most at a number
 abbrev Fits : ℕ → Span → Type 0
-Fits most s = (s .low ≤ s .high) × (s .high ≤ most)
+Fits most s = InField most (bounds.Are s)
 
 abbrev CheckedFits : ℕ → Checked → Type 0
 CheckedFits most (checked.Is s) = Fits most s

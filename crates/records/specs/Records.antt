@@ -1,4 +1,4 @@
--- What a line and its fields say, in both texts: whether it is skipped, its first word, an action, and a block.
+-- What a line and its fields say, in both texts: whether it is skipped, its first word, an action, a block, and "the same five".
 use mathlib.Core.Bool.{Bool, true, cond, not}
 use mathlib.Core.List.{List, [], _∷_}
 use Prim.Native.Char.{code}
@@ -42,6 +42,7 @@ readAction line =
     (cond (same (field line 2) (bytes "deny")) (action.Is Deny)
     action.Unread)
 
+-- go on with the action, or with what is said if none reads
 abbrev pub onAction : {R : Type 0} → ActionRead → R → (Action → R) → R
 onAction (action.Is a) unread go = go a
 onAction action.Unread unread go = unread
@@ -66,6 +67,7 @@ readAddresses line k = both k (check 6 7 (addressOf (field line k))) (check 6 7 
 abbrev pub readServices : List ℕ → ℕ → Spans
 readServices line k = both k (check 8 10 (protocolOf (field line k))) (check 9 10 (portOf (field line (k + 1))))
 
+-- go on with both spans, or stop at the refusal
 abbrev pub onSpans : {R : Type 0} → Spans → (ℕ → ℕ → R) → (Span → Span → R) → R
 onSpans (spans.Are s t) stop go = go s t
 onSpans (spans.Not number field) stop go = stop number field
@@ -77,6 +79,7 @@ readBlock line k =
     onSpans (readServices line (k + 2)) block.Not (λ p q.
     block.Is (record { source = s; destination = d; protocol = p; port = q })))
 
+-- go on with the block, or stop at the refusal
 abbrev pub onBlock : {R : Type 0} → BlockRead → (ℕ → ℕ → R) → (Block → R) → R
 onBlock (block.Is b) stop go = go b
 onBlock (block.Not number field) stop go = stop number field
@@ -91,6 +94,7 @@ readFive full line =
     onBlock (readBlock line 3) five.Not (λ b.
     five.Are a b))))
 
+-- go on with action and block, or stop at the refusal
 abbrev pub onFive : {R : Type 0} → FiveRead → (ℕ → ℕ → R) → (Action → Block → R) → R
 onFive (five.Are a b) stop go = go a b
 onFive (five.Not number field) stop go = stop number field

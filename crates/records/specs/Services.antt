@@ -8,6 +8,7 @@ use Rattle.numbers.specs.Intervals.{span, intervalOf}
 use Rattle.numbers.specs.declared.Bounds.the-variants.{Are}
 use Rattle.numbers.specs.declared.Bounds.{Bounds}
 
+-- a word stands alone
 unfoldable pub protocolOf : List ℕ → Bounds
 protocolOf s =
     cond (same s (bytes "tcp")) (Are (span 6 6))
@@ -15,5 +16,6 @@ protocolOf s =
     (cond (same s (bytes "icmp")) (Are (span 1 1))
     (intervalOf 255 s)))
 
+-- no word
 unfoldable pub portOf : List ℕ → Bounds
 portOf s = intervalOf 65535 s

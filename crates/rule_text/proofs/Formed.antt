@@ -18,7 +18,7 @@ use Rattle.sets.specs.declared.Refusal.{Refusal}
 use Rattle.sets.specs.declared.Rule.{Rule}
 use Rattle.sets.proofs.Padding.{no-rules, rules-zero, rules-unrefused, all-more}
 use Rattle.texts.specs.Texts.{Said, goes, stops, refusal}
-use Rattle.texts.proofs.Reading.{Keeps, kept}
+use Rattle.texts.proofs.Reading.{Keeps, kept, answered}
 use Rattle.records.specs.Records.{skipped, named, readFive, onFive}
 use Rattle.records.specs.declared.FiveRead.the-variants as five
 use Rattle.records.specs.declared.FiveRead.{FiveRead}
@@ -27,35 +27,19 @@ use Rattle.rule_text.specs.RuleTexts.{ruleRecord, ruleLine, onRuleLine, 
 use Rattle.rule_text.specs.declared.RuleLine.the-variants.{Skipped, Is, Not}
 use Rattle.rule_text.specs.declared.RuleLine.{RuleLine}
 use Rattle.rule_text.specs.declared.RulesRead.{RulesRead}
-use Rattle.rule_text.proofs.RuleReading.{Room, room}
-
--- a rule that a line says is in form
-abbrev RuleInForm : RuleLine → Type 0
-RuleInForm Skipped = Unit {0}
-RuleInForm (Is r) = inForm (ruleOf r) ≡ true
-RuleInForm (Not number field) = Unit {0}
-
-line-in-form : (count : ℕ) (line : List ℕ) → RuleInForm (ruleLine count line)
-unfolding ruleLine ruleRecord
-line-in-form count line = go (skipped line) (named (bytes "rule") line) (readFive (leb mostRules count) line) (read-five-in-form (leb mostRules count) line)
-  where
-    go : (a b : Bool) (x : FiveRead) → FiveInForm (leb mostRules count) x → RuleInForm (cond a Skipped (cond b (onFive x Not (λ e d. Is (record { action = e; block = d }))) (Not 3 1)))
-    go true b x h = tt
-    go false false x h = tt
-    go false true (five.Not number field) h = tt
-    go false true (five.Are e d) h = h .1
+use Rattle.rule_text.proofs.RuleReading.{SaidRight, said-right}
 
 -- what every line keeps: not too many rules, all in form
 abbrev Kept : List Rule → Type 0
 Kept rs = (length rs ≤ mostRules) × (allOf inForm (map ruleOf rs) ≡ true)
 
 keeps : (rs : List Rule) (line : List ℕ) → Kept rs → Keeps Kept (saidRule rs line)
-keeps rs line h = go (ruleLine (length rs) line) (room (length rs) line) (line-in-form (length rs) line)
+keeps rs line h = go (ruleLine (length rs) line) (said-right (length rs) line)
   where
-    go : (o : RuleLine) → Room (length rs) o → RuleInForm o → Keeps Kept (onRuleLine o (goes rs) (λ r. goes (rs ++ (r ∷ []))) stops)
-    go Skipped e f = h
-    go (Is r) e f = (omega (arith, length-append rs (r ∷ [])), all-more ruleOf inForm rs r (h .1) f)
-    go (Not number field) e f = tt
+    go : (o : RuleLine) → SaidRight (length rs) o → Keeps Kept (onRuleLine o (goes rs) (λ r. goes (rs ++ (r ∷ []))) stops)
+    go Skipped e = h
+    go (Is r) e = (omega (arith, e .0, length-append rs (r ∷ [])), all-more ruleOf inForm rs r (h .1) (e .1))
+    go (Not number field) e = tt
 
 -- 14 never applies to what was read, and it is zero past its count
 abbrev Right : RulesRead → Type 0
@@ -84,8 +68,4 @@ Empty r = (r .refusal .number ≡ 0 → ⊥) → r .rules ≡ emptyRules
 
 pub rules-refused-empty : (text : List ℕ) → (readRules text .refusal .number ≡ 0 → ⊥) → readRules text .rules ≡ emptyRules
 unfolding readRules
-rules-refused-empty text = kept saidRule allRules noRules (λ rs. Unit {0}) Empty (λ rs line h. anything (saidRule rs line)) (λ rs h some. absurd (some refl)) (λ rs r some. no-rules) [] text tt
-  where
-    anything : (o : Said (List Rule)) → Keeps (λ rs. Unit {0}) o
-    anything (goes rs) = tt
-    anything (stops number field) = tt
+rules-refused-empty text = answered saidRule allRules noRules Empty (λ rs some. absurd (some refl)) (λ rs r some. no-rules) [] text

@@ -10,14 +10,16 @@ use lib.ListN.{length, length-append}
 use Rattle.meaning.specs.Form.{mostRules}
 use Rattle.parts.specs.Words.{bytes}
 use Rattle.sets.specs.Empty.{zeroRule}
+use Rattle.sets.specs.Inner.{inForm}
+use Rattle.sets.specs.Vocabulary.{ruleOf}
 use Rattle.sets.specs.Listed.{ruleSet}
 use Rattle.sets.specs.declared.Rule.{Rule}
 use Rattle.sets.specs.declared.Rules.{Rules}
 use Rattle.sets.proofs.Padding.{padded-set}
-use Rattle.lines.specs.Reader.{cursorAfter}
+use Rattle.lines.specs.Reader.{lineAt, cursorAfter}
 use Rattle.lines.specs.declared.Cursor.{Cursor}
 use Rattle.texts.specs.Texts.{mostBytes, refusal, linesOf, Said, goes, stops, readFrom}
-use Rattle.texts.proofs.Reading.{Reading, lineAt, begun, stepped, halted, finished}
+use Rattle.texts.proofs.Reading.{Reading, begun, stepped, halted, finished}
 use Rattle.records.specs.Records.{skipped, named, readFive, onFive}
 use Rattle.records.specs.declared.FiveRead.the-variants as five
 use Rattle.records.specs.declared.FiveRead.{FiveRead}
@@ -27,21 +29,21 @@ use Rattle.rule_text.specs.RuleTexts.{ruleRecord, ruleLine, onRuleLine, 
 use Rattle.rule_text.specs.declared.RuleLine.the-variants.{Skipped, Is, Not}
 use Rattle.rule_text.specs.declared.RuleLine.{RuleLine}
 
--- a rule is read only where there is room for it
-abbrev pub Room : ℕ → RuleLine → Type 0
-Room count Skipped = Unit {0}
-Room count (Is r) = count < mostRules
-Room count (Not number field) = Unit {0}
+-- a rule that a line says came where there was room for it, and is in form
+abbrev pub SaidRight : ℕ → RuleLine → Type 0
+SaidRight count Skipped = Unit {0}
+SaidRight count (Is r) = (count < mostRules) × (inForm (ruleOf r) ≡ true)
+SaidRight count (Not number field) = Unit {0}
 
-pub room : (count : ℕ) (line : List ℕ) → Room count (ruleLine count line)
+pub said-right : (count : ℕ) (line : List ℕ) → SaidRight count (ruleLine count line)
 unfolding ruleLine ruleRecord
-room count line = go (skipped line) (named (bytes "rule") line) (readFive (leb mostRules count) line) (read-five-in-form (leb mostRules count) line)
+said-right count line = go (skipped line) (named (bytes "rule") line) (readFive (leb mostRules count) line) (read-five-in-form (leb mostRules count) line)
   where
-    go : (a b : Bool) (x : FiveRead) → FiveInForm (leb mostRules count) x → Room count (cond a Skipped (cond b (onFive x Not (λ e d. Is (record { action = e; block = d }))) (Not 3 1)))
+    go : (a b : Bool) (x : FiveRead) → FiveInForm (leb mostRules count) x → SaidRight count (cond a Skipped (cond b (onFive x Not (λ e d. Is (record { action = e; block = d }))) (Not 3 1)))
     go true b x h = tt
     go false false x h = tt
     go false true (five.Not number field) h = tt
-    go false true (five.Are e d) h = leb-false mostRules count (h .0)
+    go false true (five.Are e d) h = (leb-false mostRules count (h .0), h .1)
 
 -- an empty line says nothing
 pub says-nothing : (rs : List Rule) → saidRule rs [] ≡ goes rs
@@ -76,7 +78,7 @@ module _ (t : List ℕ) (c : Cursor) (s : Rules) (h : Read t c s) (fits : length
   says o′ e = ap then (ap (λ (x : Rules). ruleLine (x .count) (lineAt t (c .at))) (sym (h .is)) ∙ sym said ∙ e)
 
   pub has-room : (r : Rule) → o ≡ Is r → s .count < mostRules
-  has-room r e = subst (Room (s .count)) (sym said ∙ e) (room (s .count) (lineAt t (c .at)))
+  has-room r e = subst (SaidRight (s .count)) (sym said ∙ e) (said-right (s .count) (lineAt t (c .at))) .0
 
   pub read-skip : (c′ : Cursor) → c′ ≡ cursorAfter t c → o ≡ Skipped → Read t c′ s
   read-skip c′ p e = record { rs = h .rs; is = h .is; reading = stepped saidRule allRules noRules says-nothing [] t (c .at) (c .line) (h .rs) (h .reading) fits inside c′ p (h .rs) (says Skipped e) }

@@ -26,6 +26,7 @@ ruleLine count line =
     (cond (named (bytes "rule") line) (ruleRecord count line)
     (Not 3 1))
 
+-- by what the line says: nothing, a rule, a refusal
 abbrev pub onRuleLine : {R : Type 0} → RuleLine → R → (Rule → R) → (ℕ → ℕ → R) → R
 onRuleLine Skipped skip go stop = skip
 onRuleLine (Is r) skip go stop = go r

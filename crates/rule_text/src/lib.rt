@@ -64,7 +64,7 @@ fn read_lines(text: &[u8]) -> RulesRead
         match said {
             RuleLine::Skipped => {}
             RuleLine::Is(rule) => {
-                rules = add(rules, rule);
+                rules = add_rule(rules, rule);
             }
             RuleLine::Not(number, field) => {
                 return refuse(Refusal {
@@ -111,7 +111,7 @@ fn rule_record(line: &[u8], count: usize) -> RuleLine
 }
 
 // The set with one rule more.
-fn add(rules: Rules, rule: Rule) -> Rules
+fn add_rule(rules: Rules, rule: Rule) -> Rules
     requires { ⌜ rules .count < mostRules ⌝ }
     ensures { λ r. ⌜ r ≡ ruleAdded rules rule ⌝ }
 {

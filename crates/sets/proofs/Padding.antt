@@ -1,12 +1,12 @@
 -- Laws of records with zero records behind them, and of the sets made so. Assumes nothing.
 use mathlib.Core.Bool.{Bool, true, false, _&&_}
-use mathlib.Core.List.{List, [], _∷_, _++_, map}
+use mathlib.Core.List.{List, [], _∷_, _++_, map, map-append}
 use mathlib.Core.Path.{_≡_, refl, ap, sym, _∙_}
 use native.Mathlib.Omega.{arith}
 use Prim.Native.Nat.{ℕ, suc, _+_, _-_, _≤_, _<_}
 use borrow.Author.Tests.{le-leb}
-use lib.ListN.{length, take, drop, set, replicate, length-append, length-replicate}
-use lib.Seq.{set-append-seam, append-snoc}
+use lib.ListN.{length, take, drop, set, replicate, length-append, length-map, length-replicate}
+use lib.Seq.{set-append-seam, append-snoc, take-append-seam, drop-append-seam}
 use Rattle.meaning.specs.Fields.{fields}
 use Rattle.meaning.specs.Form.{mostRules, mostDirectives, mostExceptions, unrefused, rulesInForm, policyInForm, exceptionsInForm, refuseRules, refusePolicy}
 use Rattle.meaning.specs.Records.{allOf}
@@ -28,23 +28,19 @@ module _ {A : Type 0} (n : ℕ) (z : A) where
       ∙ sym (append-snoc xs x (replicate (n - (length xs + 1)) z))
       ∙ ap (λ (m : ℕ). (xs ++ (x ∷ [])) ++ replicate (n - m) z) (sym (length-append xs (x ∷ [])))
 
-  drop-front : (xs ys : List A) → drop (length xs) (xs ++ ys) ≡ ys
-  drop-front [] ys = refl
-  drop-front (x ∷ xs) ys = drop-front xs ys
-
   -- what lies past the count is zero
   pub padded-zero : (xs : List A) → length xs ≤ n → zeroPast z (length xs) (padded n z xs)
   padded-zero xs h =
       let left : n - length xs ≡ length (padded n z xs) - length xs = omega (arith, length-append xs (replicate (n - length xs) z), length-replicate (n - length xs) z) in
-      drop-front xs (replicate (n - length xs) z) ∙ ap (λ (m : ℕ). replicate m z) left
+      drop-append-seam xs (replicate (n - length xs) z) ∙ ap (λ (m : ℕ). replicate m z) left
 
 -- what lies within the count is what was listed
 pub padded-within : {A B : Type 0} (f : A → B) (n : ℕ) (z : A) (xs : List A) → take (length xs) (map f (padded n z xs)) ≡ map f xs
-padded-within f n z xs = go xs (replicate (n - length xs) z)
-  where
-    go : (ys zs : List _) → take (length ys) (map f (ys ++ zs)) ≡ map f ys
-    go [] zs = refl
-    go (y ∷ ys) zs = ap (λ (bs : List _). f y ∷ bs) (go ys zs)
+padded-within f n z xs =
+    let front : length xs ≡ length (map f xs) = sym (length-map xs f) in
+    ap (take (length xs)) (map-append f xs (replicate (n - length xs) z))
+    ∙ ap (λ (k : ℕ). take k (map f xs ++ map f (replicate (n - length xs) z))) front
+    ∙ take-append-seam (map f xs) (map f (replicate (n - length xs) z))
 
 -- no records listed make the empty sets
 pub no-rules : ruleSet [] ≡ emptyRules

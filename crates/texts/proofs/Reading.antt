@@ -9,11 +9,10 @@ use Prim.Native.Nat.{ℕ, suc, _+_, _≤_, _<_}
 use borrow.Author.Tests.{ltb-false}
 use lib.Dec.{eqb, ltb}
 use lib.ListN.{length, getD, drop}
-use Rattle.parts.specs.Parts.{part}
 use Rattle.parts.specs.Words.{newline}
 use Rattle.parts.proofs.Parting.{part-here, parts-next, parts-last, part-fits, at-end}
 use Rattle.sets.specs.declared.Refusal.{Refusal}
-use Rattle.lines.specs.Reader.{cursorAfter}
+use Rattle.lines.specs.Reader.{lineAt, cursorAfter}
 use Rattle.lines.specs.declared.Cursor.{Cursor}
 use Rattle.lines.proofs.Stepping.{cursor-after}
 use Rattle.texts.specs.Texts.{mostBytes, unended, refusal, refuseText, linesOf, Said, goes, stops, onSaid, readFrom, readText}
@@ -26,10 +25,6 @@ unrefused-fits t e = go (ltb mostBytes (length t)) refl (unended t) e
     go : (a : Bool) → ltb mostBytes (length t) ≡ a → (b : Bool) → cond a (refusal 1 0 0) (cond b (refusal 2 (length (linesOf t)) 0) (refusal 0 0 0)) .number ≡ 0 → length t ≤ mostBytes
     go true h b f = absurd (omega arith)
     go false h b f = ltb-false mostBytes (length t) h
-
--- the line from a place on
-abbrev pub lineAt : List ℕ → ℕ → List ℕ
-lineAt t at = part newline (drop at t) 0
 
 pub line-fits : (t : List ℕ) (at : ℕ) → at ≤ length t → at + length (lineAt t at) ≤ length t
 line-fits t at h = part-fits newline t at (at + length (lineAt t at)) refl h
@@ -123,3 +118,12 @@ module _ {S R : Type 0} (said : S → List ℕ → Said S) (all : S → R) (refu
           go : (b : Bool) → Has (cond b (from 1 s (linesOf t)) (refused s (refuseText t)))
           go true = kept-from 1 s (linesOf t) h
           go false = stopped s (refuseText t)
+
+  -- what the answer at the end and the answer to each refusal have, the answer to the text has
+  module _ (Has : R → Type 0) (done : (s : S) → Has (all s)) (stopped : (s : S) (r : Refusal) → Has (refused s r)) where
+    anything : (o : Said S) → Keeps (λ (s : S). Unit {0}) o
+    anything (goes s) = tt
+    anything (stops number field) = tt
+
+    pub answered : (s : S) (t : List ℕ) → Has (readText said all refused s t)
+    answered s t = kept (λ (s′ : S). Unit {0}) Has (λ s′ l h. anything (said s′ l)) (λ s′ h. done s′) stopped s t tt

@@ -36,6 +36,7 @@ pub data Said (S : Type 0) : Type 0 where
   goes : S → Said S
   stops : ℕ → ℕ → Said S
 
+-- go on with what is read then, or stop at the refusal
 abbrev pub onSaid : {S R : Type 0} → Said S → (S → R) → (ℕ → ℕ → R) → R
 onSaid (goes s) go stop = go s
 onSaid (stops number field) go stop = stop number field

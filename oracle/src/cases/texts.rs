@@ -1,8 +1,8 @@
 //! The requests about texts: named cases first, each with its answer by the
 //! papers, then drawn texts with a fixed seed.
 //!
-//! A case names the sentence of document 01 or the entry of READINGS.md (01.1 and
-//! so on) that decides it.
+//! A case names the sentence of document 01 or the reading (01.1 and so on; see
+//! docs/DECISIONS.md, 45 to 62) that decides it.
 
 mod addresses;
 mod counts;

@@ -1,5 +1,5 @@
 -- A reader is made of what is handed in, `next` steps it, and the cursor is made of the place and the number of what comes back. A
--- walk of the MIR by hand, since two locals hold a reference. Assumes nothing.
+-- walk by hand over the compiled function, since two locals hold a reference. Assumes nothing.
 use mathlib.Core.List.{List, [], _∷_}
 use mathlib.Core.Path.{_≡_, refl, subst, ap}
 use Prim.Native.Nat.{ℕ, _<_, _^_}

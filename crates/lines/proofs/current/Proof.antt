@@ -1,4 +1,4 @@
--- The reader is taken apart, and `line_from` answers on its text and its place. A walk of the MIR by hand, since the parameter holds
+-- The reader is taken apart, and `line_from` answers on its text and its place. A walk by hand over the compiled function, since the parameter holds
 -- a reference. Assumes nothing.
 use mathlib.Core.List.{List, [], _∷_}
 use mathlib.Core.Path.{_≡_, refl}

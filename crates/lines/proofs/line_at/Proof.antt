@@ -1,4 +1,4 @@
--- A reader is made of what is handed in, and `current` answers on it. A walk of the MIR by hand, since a local holds a reference.
+-- A reader is made of what is handed in, and `current` answers on it. A walk by hand over the compiled function, since a local holds a reference.
 -- Assumes nothing.
 use mathlib.Core.List.{List, [], _∷_}
 use mathlib.Core.Path.{_≡_, refl}

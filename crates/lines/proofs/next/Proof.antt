@@ -1,5 +1,5 @@
 -- The reader is taken apart, `place_after` and `line_after` step its place and its number, and with the same text they make the
--- answer. A walk of the MIR by hand, since parameter and answer hold a reference. Assumes nothing.
+-- answer. A walk by hand over the compiled function, since parameter and answer hold a reference. Assumes nothing.
 use mathlib.Core.List.{[], _∷_}
 use mathlib.Core.Path.{_≡_, refl, ap}
 use Prim.Native.Nat.{ℕ, _<_, _^_}

@@ -18,11 +18,11 @@ Inv-loop text most value₀ i₀ v i =
 abbrev μ-loop : tie.MeasureT-loop
 μ-loop text most value₀ i₀ v i = length text - i
 
-begins-requires : tie.Need-begins-requires Inv-loop μ-loop
-begins-requires c κs = search needs
+is-plain-requires : tie.Need-is-plain-requires Inv-loop μ-loop
+is-plain-requires c κs = search needs
 
 loop-holds : tie.Need-loop-holds Inv-loop μ-loop
-loop-holds c = (omega arith, omega arith, sym (c .before .begins .ensures) ∙ c .if1 .taken, refl, refl)
+loop-holds c = (omega arith, omega arith, sym (c .before .is-plain .ensures) ∙ c .if1 .taken, refl, refl)
 
 shared-slice-read-digit : tie.Need-shared-slice-read-digit Inv-loop μ-loop
 shared-slice-read-digit c = search needs
@@ -81,7 +81,7 @@ returns-4 c =
     sym (decimal-is (c .before .before .before .before .before .args .most) text (c .before .loop .inv .2) (c .before .loop .inv .3 ∙ ap digits over) (omega arith) ∙ ap Is is)
 
 returns-5 : tie.Need-returns-5 Inv-loop μ-loop
-returns-5 c = sym (decimal-unplain (c .before .before .before .args .most) (c .before .before .before .args .text .now) (sym (c .before .begins .ensures) ∙ c .if1 .left))
+returns-5 c = sym (decimal-unplain (c .before .before .before .args .most) (c .before .before .before .args .text .now) (sym (c .before .is-plain .ensures) ∙ c .if1 .left))
 
 pub decimal-spec : {M : Type 1} → statement M
 decimal-spec =
@@ -89,7 +89,7 @@ decimal-spec =
     (tie.spec
     Inv-loop
     μ-loop
-    begins-requires
+    is-plain-requires
     loop-holds
     shared-slice-read-digit
     add-i

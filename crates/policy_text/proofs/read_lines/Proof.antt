@@ -6,7 +6,7 @@ use borrow.Author.Needs.{needs}
 use lib.ListN.{length}
 use Rattle.lines.proofs.Stepping.{nearer}
 use Rattle.policy_text.specs.declared.PolicyLine.the-variants.{Ask, But}
-use Rattle.policy_text.proofs.PolicyReading.{Read, read-none, read-all, has-room, few-asked, read-skip, read-ask, read-but, read-stop}
+use Rattle.policy_text.proofs.PolicyReading.{Read, read-none, read-all, right, few-asked, read-skip, read-ask, read-but, read-stop}
 use Rattle.policy_text.proofs.read_lines.Statement.{statement}
 use Rattle.policy_text.proofs.read_lines.Tie as tie
 
@@ -41,7 +41,7 @@ enum-known-said : tie.Need-enum-known-said Inv-loop μ-loop
 enum-known-said c = search needs
 
 add-directive-requires : tie.Need-add-directive-requires Inv-loop μ-loop
-add-directive-requires c κs = has-room (c .before .before .before .before .before .before .before .before .before .before .before .args .text .now) (c .before .before .before .before .before .before .before .before .loop .cursor) (c .before .before .before .before .before .before .before .before .loop .policy) (c .before .before .before .before .before .before .before .before .loop .above) (c .before .before .before .before .before .before .before .before .loop .inv) (omega arith) (omega arith) (c .before .before .before .before .before .policy-at .result) (c .before .before .before .before .before .policy-at .ensures) (Ask _) (c .before .before .said .given .1)
+add-directive-requires c κs = right (c .before .before .before .before .before .before .before .before .before .before .before .args .text .now) (c .before .before .before .before .before .before .before .before .loop .cursor) (c .before .before .before .before .before .before .before .before .loop .policy) (c .before .before .before .before .before .before .before .before .loop .above) (c .before .before .before .before .before .before .before .before .loop .inv) (omega arith) (omega arith) (c .before .before .before .before .before .policy-at .result) (c .before .before .before .before .before .policy-at .ensures) (Ask _) (c .before .before .said .given .1) .0
 
 loop-less-2 : tie.Need-loop-less-2 Inv-loop μ-loop
 loop-less-2 c = nearer (c .before .before .before .before .before .before .before .before .before .before .before .before .args .text .now) (c .before .before .before .before .before .before .before .before .before .loop .cursor) (c .before .before .before .before .before .after .result) (omega arith) (c .before .before .before .before .before .after .ensures)
@@ -55,7 +55,7 @@ enum-known-said-2 c = search needs
 add-exception-requires : tie.Need-add-exception-requires Inv-loop μ-loop
 add-exception-requires c κs = (
   few-asked (c .before .before .before .before .before .before .before .before .before .before .args .text .now) (c .before .before .before .before .before .before .before .loop .cursor) (c .before .before .before .before .before .before .before .loop .policy) (c .before .before .before .before .before .before .before .loop .above) (c .before .before .before .before .before .before .before .loop .inv) (omega arith) (omega arith) (c .before .before .before .before .policy-at .result) (c .before .before .before .before .policy-at .ensures),
-  has-room (c .before .before .before .before .before .before .before .before .before .before .args .text .now) (c .before .before .before .before .before .before .before .loop .cursor) (c .before .before .before .before .before .before .before .loop .policy) (c .before .before .before .before .before .before .before .loop .above) (c .before .before .before .before .before .before .before .loop .inv) (omega arith) (omega arith) (c .before .before .before .before .policy-at .result) (c .before .before .before .before .policy-at .ensures) (But _) (c .before .said2 .given .1) .1,
+  right (c .before .before .before .before .before .before .before .before .before .before .args .text .now) (c .before .before .before .before .before .before .before .loop .cursor) (c .before .before .before .before .before .before .before .loop .policy) (c .before .before .before .before .before .before .before .loop .above) (c .before .before .before .before .before .before .before .loop .inv) (omega arith) (omega arith) (c .before .before .before .before .policy-at .result) (c .before .before .before .before .policy-at .ensures) (But _) (c .before .said2 .given .1) .1,
 )
 
 loop-less-3 : tie.Need-loop-less-3 Inv-loop μ-loop

@@ -39,14 +39,14 @@ loop-again c = read-skip (c .before .before .before .before .before .before .bef
 enum-known-said : tie.Need-enum-known-said Inv-loop μ-loop
 enum-known-said c = search needs
 
-add-requires : tie.Need-add-requires Inv-loop μ-loop
-add-requires c κs = has-room (c .before .before .before .before .before .before .before .before .before .before .args .text .now) (c .before .before .before .before .before .before .before .loop .cursor) (c .before .before .before .before .before .before .before .loop .rules) (c .before .before .before .before .before .before .before .loop .inv) (omega arith) (omega arith) (c .before .before .before .before .rule-at .result) (c .before .before .before .before .rule-at .ensures) _ (c .before .said .given .1)
+add-rule-requires : tie.Need-add-rule-requires Inv-loop μ-loop
+add-rule-requires c κs = has-room (c .before .before .before .before .before .before .before .before .before .before .args .text .now) (c .before .before .before .before .before .before .before .loop .cursor) (c .before .before .before .before .before .before .before .loop .rules) (c .before .before .before .before .before .before .before .loop .inv) (omega arith) (omega arith) (c .before .before .before .before .rule-at .result) (c .before .before .before .before .rule-at .ensures) _ (c .before .said .given .1)
 
 loop-less-2 : tie.Need-loop-less-2 Inv-loop μ-loop
 loop-less-2 c = nearer (c .before .before .before .before .before .before .before .before .before .before .before .args .text .now) (c .before .before .before .before .before .before .before .before .loop .cursor) (c .before .before .before .before .after .result) (omega arith) (c .before .before .before .before .after .ensures)
 
 loop-again-2 : tie.Need-loop-again-2 Inv-loop μ-loop
-loop-again-2 c = read-more (c .before .before .before .before .before .before .before .before .before .before .before .args .text .now) (c .before .before .before .before .before .before .before .before .loop .cursor) (c .before .before .before .before .before .before .before .before .loop .rules) (c .before .before .before .before .before .before .before .before .loop .inv) (omega arith) (omega arith) (c .before .before .before .before .before .rule-at .result) (c .before .before .before .before .before .rule-at .ensures) (c .before .before .before .before .after .result) (c .add .result) _ (c .before .before .before .before .after .ensures) (c .add .ensures) (c .before .before .said .given .1)
+loop-again-2 c = read-more (c .before .before .before .before .before .before .before .before .before .before .before .args .text .now) (c .before .before .before .before .before .before .before .before .loop .cursor) (c .before .before .before .before .before .before .before .before .loop .rules) (c .before .before .before .before .before .before .before .before .loop .inv) (omega arith) (omega arith) (c .before .before .before .before .before .rule-at .result) (c .before .before .before .before .before .rule-at .ensures) (c .before .before .before .before .after .result) (c .add-rule .result) _ (c .before .before .before .before .after .ensures) (c .add-rule .ensures) (c .before .before .said .given .1)
 
 enum-known-said-2 : tie.Need-enum-known-said-2 Inv-loop μ-loop
 enum-known-said-2 c = search needs
@@ -76,7 +76,7 @@ read-lines-spec =
     loop-less
     loop-again
     enum-known-said
-    add-requires
+    add-rule-requires
     loop-less-2
     loop-again-2
     enum-known-said-2

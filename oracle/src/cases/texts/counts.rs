@@ -105,7 +105,7 @@ fn exceptions_full() -> Vec<Case> {
     cases.extend([
         policy_refused(why, spread(1, 65), [13, 66, 0]),
         policy_refused(why, spread(1, 100), [13, 66, 0]),
-        // Two directives of 64 lines and one: the 65th exception stands behind the second `ask`.
+        // 64 exceptions under one directive, and one more under a second: the 65th of the whole policy.
         policy_refused(why, format!("{}{ASK}{BUT}", spread(1, 64)), [13, 67, 0]),
         policy_refused(why, spread(5, 13), [13, 70, 0]),
         policy_refused(why, spread(13, 5), [13, 78, 0]),

@@ -3,7 +3,7 @@
 
 use super::*;
 
-/// So many of a text, and a 65th rule, a 33rd directive or a 65th exception.
+/// The limits: one record more is the 65th rule, the 33rd directive or the 65th exception.
 const FULL_RULES: usize = 64;
 const FULL_DIRECTIVES: usize = 32;
 const FULL_EXCEPTIONS: usize = 64;

@@ -77,7 +77,7 @@ fn every_refusal_is_met_and_at_several_lines() {
         println!("refusal {number}: {} texts", places.len());
     }
     assert!(met.keys().copied().eq(0..=13));
-    for number in 3..=13 {
+    for number in 2..=13 {
         let lines: BTreeSet<u32> = met[&number].iter().map(|(_, line, _)| *line).collect();
         println!("refusal {number}: {} different lines", lines.len());
         assert!(lines.len() >= 3, "{number}");

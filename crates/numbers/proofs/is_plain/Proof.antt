@@ -2,8 +2,8 @@
 use mathlib.Core.Path.{sym}
 use borrow.Author.Needs.{needs}
 use Rattle.numbers.proofs.Reckoning.{plain-none, plain-one, plain-more}
-use Rattle.numbers.proofs.begins.Statement.{statement}
-use Rattle.numbers.proofs.begins.Tie as tie
+use Rattle.numbers.proofs.is_plain.Statement.{statement}
+use Rattle.numbers.proofs.is_plain.Tie as tie
 
 returns : tie.Need-returns
 returns c = sym (plain-none (c .before .args .text .now) (c .if1 .taken))
@@ -17,5 +17,5 @@ shared-slice-read-result c = search needs
 returns-3 : tie.Need-returns-3
 returns-3 c = sym (plain-more (c .before .before .before .args .text .now) (c .before .before .if1 .left) (c .before .if2 .left))
 
-pub begins-spec : {M : Type 1} → statement M
-begins-spec = tie.close (tie.spec returns returns-2 shared-slice-read-result returns-3)
+pub is-plain-spec : {M : Type 1} → statement M
+is-plain-spec = tie.close (tie.spec returns returns-2 shared-slice-read-result returns-3)
