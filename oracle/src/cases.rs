@@ -1,6 +1,7 @@
 //! The test requests: fixed cases first, then drawn ones with a fixed seed.
 
 mod blocks;
+mod faults;
 pub mod labels;
 mod limits;
 pub mod texts;
@@ -21,11 +22,12 @@ pub fn requests() -> String {
     script.group("the widest block and the lowest packet");
     script.request('w', &[]);
     script.group("the empty sets, before any request changes them");
-    script.form_and_label(Packet::LOWEST);
+    script.ask(Packet::LOWEST);
     twelve::write(&mut script);
     limits::write(&mut script);
     labels::write(&mut script, &mut random);
     blocks::write(&mut script, &mut random);
+    faults::write(&mut script);
     script.text
 }
 
@@ -95,10 +97,20 @@ impl Script {
         self.request('a', &[&packet.0]);
     }
 
-    fn form_and_label(&mut self, packet: Packet) {
+    /// The verdict, and the listing with a buffer of each of these lengths.
+    fn faults(&mut self, lengths: impl IntoIterator<Item = usize>) {
+        self.request('v', &[]);
+        for length in lengths {
+            self.request('g', &[&[length as u32]]);
+        }
+    }
+
+    /// Every request about the sets, or about them and a packet.
+    fn ask(&mut self, packet: Packet) {
         self.request('s', &[]);
         self.request('f', &[&packet.0]);
         self.label(packet);
+        self.faults([25]);
     }
 }
 
@@ -146,12 +158,28 @@ fn no_policy() -> PolicySet {
 mod tests {
     use super::*;
     use crate::requests::answers;
+    use std::sync::OnceLock;
 
+    /// All requests and their answers, worked out once for all tests.
+    pub fn all() -> &'static (String, String) {
+        static ALL: OnceLock<(String, String)> = OnceLock::new();
+        ALL.get_or_init(|| {
+            let requests = requests();
+            let answers = answers(&requests);
+            (requests, answers)
+        })
+    }
+
+    /// The harness reads lines of at most 1,024 bytes, a million of them, and has
+    /// 16,384 bytes for an answer.
     #[test]
-    fn the_requests_are_short_enough() {
-        let text = requests();
-        assert!(text.len() < 200_000);
-        assert!(text.is_ascii());
+    fn requests_and_answers_are_short_enough() {
+        let (requests, answers) = all();
+        assert!(requests.len() < 12_000_000 && answers.len() < 12_000_000);
+        assert!(requests.is_ascii());
+        assert!(requests.lines().count() < 1_000_000);
+        assert!(requests.lines().all(|line| line.len() < 1_024));
+        assert!(answers.lines().all(|line| line.len() < 16_384));
     }
 
     #[test]
@@ -176,10 +204,19 @@ mod tests {
 
     #[test]
     fn every_refusal_is_met() {
-        let answers = answers(&requests());
+        let (_, answers) = all();
         for part in 1..=3 {
             let refused = format!("label 14 {part} 0 0 0");
             assert!(answers.lines().filter(|line| *line == refused).count() >= 5);
+        }
+        for part in 1..=2 {
+            for start in [
+                format!("verdict 14 {part} 0 0 0 0 0 0 0 0 0"),
+                format!("listing 14 {part} 0 0 4294967295 4294967294 "),
+            ] {
+                let met = answers.lines().filter(|line| line.starts_with(&start));
+                assert!(met.count() >= 30, "{start}");
+            }
         }
         let labels = answers.lines().filter(|line| line.starts_with("label "));
         for label in labels {
@@ -189,7 +226,7 @@ mod tests {
 
     #[test]
     fn both_answers_about_blocks_are_common() {
-        let answers = answers(&requests());
+        let (_, answers) = all();
         for word in ["holds", "inside", "narrow", "block"] {
             for yes_or_no in 0..2 {
                 let start = format!("{word} {yes_or_no}");

@@ -10,6 +10,7 @@
 //!     oracle texts-answers < requests.bytes
 
 mod cases;
+mod faults;
 mod model;
 mod random;
 mod requests;

@@ -333,6 +333,11 @@ pub fn label(rules: &RuleSet, policy: &PolicySet, packet: Packet) -> Result<Labe
     rules.form()?;
     policy.form()?;
     packet.form()?;
+    Ok(label_in_form(rules, policy, packet))
+}
+
+/// The label where the sets and the packet are in form.
+pub fn label_in_form(rules: &RuleSet, policy: &PolicySet, packet: Packet) -> Label {
     let accept = policy.lowest_asking(Action::Accept, packet).is_some();
     let deny = policy.lowest_asking(Action::Deny, packet).is_some();
     let deciding = rules
@@ -347,7 +352,7 @@ pub fn label(rules: &RuleSet, policy: &PolicySet, packet: Packet) -> Result<Labe
         (false, true, None) => (Kind::UnmetDeny, 0),
         _ => (Kind::Good, 0),
     };
-    Ok(Label { kind, rule })
+    Label { kind, rule }
 }
 
 #[cfg(test)]

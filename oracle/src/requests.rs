@@ -3,6 +3,7 @@
 //! A line is a letter and decimal numbers below 2^32, one space before each.
 //! Empty lines and lines that start with `#` are skipped.
 
+use crate::faults::Faults;
 use crate::model::{
     label, Action, Block, Bounds, Directive, Exception, Packet, PolicySet, Refusal, Rule, RuleSet,
     FIELDS,
@@ -37,18 +38,29 @@ pub fn answers(text: &str) -> String {
 struct State {
     rules: RuleSet,
     policy: PolicySet,
+    /// Worked out when they are first asked for, and kept until the sets change.
+    faults: Option<Result<Faults, Refusal>>,
 }
+
+/// The most numbers that the listing is lent, and how many behind them are told
+/// too.
+const MOST_LENT: usize = 1_000;
+const BEHIND: usize = 10;
 
 impl State {
     fn new() -> State {
         State {
             rules: RuleSet::new(vec![]),
             policy: PolicySet::new(vec![], vec![]),
+            faults: None,
         }
     }
 
     fn answer(&mut self, line: &str) -> Result<Option<String>, &'static str> {
         let (letter, numbers) = parts(line)?;
+        if matches!(letter, 'R' | 'r' | 'P' | 'd' | 'e') {
+            self.faults = None;
+        }
         let answer = match letter {
             'R' => {
                 self.rules = RuleSet::new(vec![]);
@@ -89,6 +101,8 @@ impl State {
             }
             'l' => self.label(packet(&numbers)),
             'a' => self.at(packet(&numbers)),
+            'v' => self.verdict(),
+            'g' => self.listing(numbers[0] as usize)?,
             'b' => {
                 let in_form = block(&numbers).in_form();
                 told("block", &[u32::from(in_form)])
@@ -144,6 +158,50 @@ impl State {
         }
         told("at", &numbers)
     }
+
+    fn faults(&mut self) -> Result<&Faults, Refusal> {
+        let (rules, policy) = (&self.rules, &self.policy);
+        let faults = self
+            .faults
+            .get_or_insert_with(|| Faults::new(rules, policy));
+        faults.as_ref().map_err(|refusal| *refusal)
+    }
+
+    fn verdict(&mut self) -> String {
+        let mut numbers = [0; 11];
+        match self.faults() {
+            Ok(faults) => {
+                let verdict = faults.verdict;
+                let label = verdict.label;
+                numbers[3..7].copy_from_slice(&[
+                    label.kind as u32,
+                    label.rule,
+                    verdict.accept,
+                    verdict.deny,
+                ]);
+                numbers[7..].copy_from_slice(&verdict.packet.0);
+            }
+            Err(refused) => numbers[..3].copy_from_slice(&refusal(Err(refused))),
+        }
+        told("verdict", &numbers)
+    }
+
+    /// The refusal, the total, the numbers lent and those behind them, as they are
+    /// after the call.
+    fn listing(&mut self, lent: usize) -> Result<String, &'static str> {
+        if lent > MOST_LENT {
+            return Err("too many numbers lent");
+        }
+        let mut buffer: Vec<u32> = (0..lent + BEHIND)
+            .map(|place| u32::MAX - place as u32)
+            .collect();
+        let (form, total) = match self.faults() {
+            Ok(faults) => (Ok(()), faults.write(&mut buffer[..lent])),
+            Err(refusal) => (Err(refusal), 0),
+        };
+        let start = told("listing", &refusal(form));
+        Ok(told(&format!("{start} {total}"), &buffer))
+    }
 }
 
 fn narrow(numbers: &[u32]) -> Result<String, &'static str> {
@@ -175,8 +233,8 @@ fn chain(numbers: &[u32]) -> String {
 /// How many numbers follow the letter.
 fn size(letter: char) -> Option<usize> {
     Some(match letter {
-        's' | 'w' => 0,
-        'R' => 1,
+        's' | 'v' | 'w' => 0,
+        'R' | 'g' => 1,
         'P' => 2,
         'a' | 'f' | 'l' => 4,
         'b' => 8,
@@ -264,15 +322,29 @@ mod tests {
             h 1 2 3 4 5 6 7 8 1 4 5 8\nh 2 1 3 4 5 6 7 8 1 4 5 8\n\
             i 2 1 0 0 0 0 0 0 2 1 0 0 0 0 0 0\ni 1 1 0 0 0 0 0 0 2 2 0 0 0 0 0 0\n\
             n 3 5 300 1 2 3 4 0 9 7 8\nn 3 9 5 1 2 3 4 0 9 7 8\n\
-            c 0 1 5 9 6 6 8 7 1 2 3 4 5 6 7 8\n";
+            c 0 1 5 9 6 6 8 7 1 2 3 4 5 6 7 8\n\
+            R 0\nP 0 0\nv\ng 1\nP 1 0\nv\ng 11\nR 65\nv\ng 0\n";
         let expected = "\
             widest 0 4294967295 0 4294967295 0 255 0 65535 lowest 0 0 0 0\n\
             sets 14 1 0\nform 14 1 0 0 0 0 14 3 0 14 1 0 0\nlabel 14 1 0 0 0\nlabel 0 0 0 3 1\nat 1 1 0 9 0 9 0 9 0 9 0 0\n\
             label 0 0 0 0 0\nat 1 1 0 9 0 9 0 9 0 9 1 0\nsets 0 0 0\nblock 1\nblock 0\nblock 0\n\
             holds 1\nholds 0\ninside 1\ninside 0\n\
             narrow 1 1 2 3 4 5 9 7 8\nnarrow 0 1 2 3 4 0 9 7 8\n\
-            chain 1 0 1 0 1 1 3 4 6 6 7 8\n";
+            chain 1 0 1 0 1 1 3 4 6 6 7 8\n\
+            verdict 0 0 0 0 0 0 0 0 0 0 0\nlisting 0 0 0 0 {11}\n\
+            verdict 0 0 0 5 0 0 1 0 0 0 0\nlisting 0 0 0 1 5 0 0 0 0 0 0 0 0 0 4294967285 {10 behind}\n\
+            verdict 14 1 0 0 0 0 0 0 0 0 0\nlisting 14 1 0 0 {10}\n"
+            .replace("{11}", &untouched(0, 11))
+            .replace("{10 behind}", &untouched(11, 21))
+            .replace("{10}", &untouched(0, 10));
         assert_eq!(answers(text), expected);
+    }
+
+    /// The numbers from a place up to another as they are before the listing.
+    fn untouched(from: u32, past: u32) -> String {
+        let numbers = (from..past).map(|place| 4_294_967_295 - place);
+        let words: Vec<String> = numbers.map(|number| number.to_string()).collect();
+        words.join(" ")
     }
 
     #[test]
@@ -288,6 +360,7 @@ mod tests {
             ("r 0 0 0 0 0 0 0 0 0 0\n", "line 1: no such record"),
             ("r 1 2 0 0 0 0 0 0 0 0\n", "line 1: no such action"),
             ("n 5 0 0 0 0 0 0 0 0 0 0\n", "line 1: no such field"),
+            ("g 1000\ng 1001\n", "line 2: too many numbers lent"),
         ] {
             let panic = std::panic::catch_unwind(|| answers(text)).unwrap_err();
             assert_eq!(panic.downcast_ref::<String>().unwrap(), message);

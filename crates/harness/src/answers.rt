@@ -1,116 +1,139 @@
-// Answers as values. An answer is a line of words and numbers, parted by one space.
+// Answers as they are made in a buffer. An answer is a line of words and numbers, parted by one space; what the buffer has no
+// room for is left out.
 
 use blocks::Block;
 use blocks::Packet;
-use blocks::Span;
+use labels::Decided;
 use libc::STDOUT_FILENO;
 use sets::Action;
 use sets::Refusal;
 use sets::Rule;
+use sets::Rules;
 
-// More bytes than the longest answer has.
-const ROOM: usize = 256;
-
-// An answer as far as it is made: its bytes, and how many there are.
+// An answer as far as it is made: how many bytes it has in the buffer.
 pub(crate) struct Answer {
-    bytes: [u8; ROOM],
     length: usize,
 }
 
 impl Answer {
     // The answer that begins with a word.
-    pub(crate) fn new(word: &[u8]) -> Answer {
-        let answer = Answer {
-            bytes: [0u8; ROOM],
-            length: 0,
-        };
-        answer.word(word)
+    pub(crate) fn new(output: &mut [u8], word: &[u8]) -> Answer {
+        Answer { length: 0 }.word(output, word)
     }
 
-    // Adds a byte, if there is room for it.
-    fn byte(mut self, byte: u8) -> Answer {
+    // Adds a byte.
+    fn byte(self, output: &mut [u8], byte: u8) -> Answer {
         let length = self.length;
-        if length < ROOM {
-            self.bytes[length] = byte;
-            self.length = length + 1;
+        if length < output.len() {
+            output[length] = byte;
+            return Answer { length: length + 1 };
         }
         self
     }
 
     // Adds a word.
-    pub(crate) fn word(mut self, word: &[u8]) -> Answer {
+    pub(crate) fn word(self, output: &mut [u8], word: &[u8]) -> Answer {
+        let mut answer = self;
         for i in 0..word.len() {
-            self = self.byte(word[i]);
+            answer = answer.byte(output, word[i]);
         }
-        self
+        answer
     }
 
     // Adds a space and a number.
-    pub(crate) fn number(self, number: u32) -> Answer {
+    pub(crate) fn number(self, output: &mut [u8], number: u32) -> Answer {
+        self.long_number(output, number as u64)
+    }
+
+    // Adds a space and a number that may need 64 bits.
+    pub(crate) fn long_number(self, output: &mut [u8], number: u64) -> Answer {
         let mut digits = [0u8; 20];
-        let count = io::decimal(number as u64, &mut digits);
-        self.byte(b' ').word(&digits[..count])
+        let count = io::decimal(number, &mut digits);
+        let answer = self.byte(output, b' ');
+        answer.word(output, &digits[..count])
+    }
+
+    // Adds numbers.
+    pub(crate) fn numbers(self, output: &mut [u8], numbers: &[u32]) -> Answer {
+        let mut answer = self;
+        for i in 0..numbers.len() {
+            answer = answer.number(output, numbers[i]);
+        }
+        answer
     }
 
     // Adds 1 for yes, 0 for no.
-    pub(crate) fn flag(self, flag: bool) -> Answer {
-        if flag { self.number(1) } else { self.number(0) }
-    }
-
-    // Adds 0 for deny, 1 for accept.
-    fn action(self, action: Action) -> Answer {
-        match action {
-            Action::Deny => self.number(0),
-            Action::Accept => self.number(1),
-        }
-    }
-
-    // Adds a span's two bounds.
-    pub(crate) fn span(self, span: Span) -> Answer {
-        self.number(span.low).number(span.high)
+    pub(crate) fn flag(self, output: &mut [u8], flag: bool) -> Answer {
+        self.number(output, flag_number(flag))
     }
 
     // Adds a block's eight bounds.
-    pub(crate) fn block(self, block: Block) -> Answer {
-        self.span(block.source)
-            .span(block.destination)
-            .span(block.protocol)
-            .span(block.port)
+    pub(crate) fn block(self, output: &mut [u8], block: Block) -> Answer {
+        let numbers = [
+            block.source.low,
+            block.source.high,
+            block.destination.low,
+            block.destination.high,
+            block.protocol.low,
+            block.protocol.high,
+            block.port.low,
+            block.port.high,
+        ];
+        self.numbers(output, &numbers)
     }
 
     // Adds a rule's action and block.
-    pub(crate) fn rule(self, rule: Rule) -> Answer {
+    fn rule(self, output: &mut [u8], rule: Rule) -> Answer {
         let action = rule.action;
-        self.action(action).block(rule.block)
+        self.number(output, action_number(action))
+            .block(output, rule.block)
+    }
+
+    // Adds the deciding rule's number, action and block; zeros if there is none.
+    pub(crate) fn decided(self, output: &mut [u8], decided: Decided) -> Answer {
+        let empty = Rules::EMPTY;
+        let zero = empty.records[0];
+        match decided {
+            Decided::By(number, rule) => self.number(output, number).rule(output, rule),
+            Decided::Nothing => self.number(output, 0).rule(output, zero),
+        }
     }
 
     // Adds a packet's four numbers.
-    pub(crate) fn packet(self, packet: Packet) -> Answer {
-        self.number(packet.source)
-            .number(packet.destination)
-            .number(packet.protocol)
-            .number(packet.port)
+    pub(crate) fn packet(self, output: &mut [u8], packet: Packet) -> Answer {
+        let numbers = [
+            packet.source,
+            packet.destination,
+            packet.protocol,
+            packet.port,
+        ];
+        self.numbers(output, &numbers)
     }
 
     // Adds a refusal's number, line and field.
-    pub(crate) fn refusal(self, refusal: Refusal) -> Answer {
-        self.number(refusal.number)
-            .number(refusal.line)
-            .number(refusal.field)
+    pub(crate) fn refusal(self, output: &mut [u8], refusal: Refusal) -> Answer {
+        let numbers = [refusal.number, refusal.line, refusal.field];
+        self.numbers(output, &numbers)
     }
 
-    // Ends the line and writes it.
-    pub(crate) fn send(self) {
-        let answer = self.byte(b'\n');
-        let bytes = answer.bytes;
-        write_first(&bytes, answer.length);
+    // Ends the line and writes it to standard output.
+    pub(crate) fn send(self, output: &mut [u8]) {
+        let length = self.byte(output, b'\n').length;
+        if length <= output.len() {
+            io::write_all(STDOUT_FILENO, &output[0..length]);
+        }
     }
 }
 
-// Writes the first bytes to standard output, as many as told.
-fn write_first(bytes: &[u8; ROOM], count: usize) {
-    let text: &[u8] = bytes;
-    if count <= text.len() {
-        io::write_all(STDOUT_FILENO, &text[0..count]);
+// 1 for yes, 0 for no.
+pub(crate) fn flag_number(flag: bool) -> u32 {
+    if flag { 1 } else { 0 }
+}
+
+// 0 for deny, 1 for accept.
+fn action_number(action: Action) -> u32 {
+    match action {
+        Action::Deny => 0,
+        Action::Accept => 1,
     }
 }

@@ -59,12 +59,15 @@ label-back UnmetDeny = refl
 pub one-decided : (x : Found rules.Rule) (r s : Decided) → decidedOf r ≡ x → decidedOf s ≡ x → r ≡ s
 one-decided = one-standing decidedOf decidedFrom decided-back
 
+pub one-label : (x : labels.Label) (r s : Label) → labelOf r ≡ x → labelOf s ≡ x → r ≡ s
+one-label = one-standing labelOf labelFrom label-back
+
 pub one-labelled : (rules : Rules) (policy : Policy) (packet : Packet) (r s : Labelled) → LabelledAs rules policy packet r → LabelledAs rules policy packet s → r ≡ s
 one-labelled rules policy packet r s a b =
     λ i.
     record {
       refusal = one-refusal _ (r .refusal) (s .refusal) (a .refusal) (b .refusal) i;
-      label = one-standing labelOf labelFrom label-back _ (r .label) (s .label) (a .label) (b .label) i;
+      label = one-label _ (r .label) (s .label) (a .label) (b .label) i;
     }
 
 pub label-once : OneAnswer (label.Post)

@@ -15,12 +15,13 @@ use Rattle.meaning.proofs.FormLaws.{form-shaped}
 use Rattle.meaning.proofs.ListingForm.{InForm}
 use Rattle.meaning.proofs.RecordsEvery.{every-take}
 
-bounds-length : (b : Block) → length (bounds b) ≡ 2 * length b
+-- two numbers a span, and so many a row
+pub bounds-length : (b : Block) → length (bounds b) ≡ 2 * length b
 unfolding bounds
 bounds-length [] = refl
 bounds-length (s ∷ b) = omega (arith, bounds-length b)
 
-row-length : (ns : List ℕ) (b : Listed Label) → InForm ns b → length (row b) ≡ rowLength ns
+pub row-length : (ns : List ℕ) (b : Listed Label) → InForm ns b → length (row b) ≡ rowLength ns
 unfolding row
 row-length ns b t = omega (arith, bounds-length (b .block), form-shaped ns (b .block) t)
 
@@ -48,7 +49,8 @@ module _ (ns : List ℕ) (blocks : List (Listed Label)) (buffer : List ℕ) wher
       ∙ getD-drop (length front) buffer (k - length front) d
       ∙ ap (λ (j : ℕ). getD buffer j d) (sym e)
 
-  rows-fit : Every (InForm ns) blocks → length (rows (take (room ns buffer) blocks)) ≤ length buffer
+  -- the rows written are no longer than the buffer
+  pub rows-fit : Every (InForm ns) blocks → length (rows (take (room ns buffer) blocks)) ≤ length buffer
   rows-fit e =
       let shown = take (room ns buffer) blocks in
       let few : length shown ≤ room ns buffer = omega (arith, length-take (room ns buffer) blocks) in

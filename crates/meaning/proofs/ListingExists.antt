@@ -78,17 +78,18 @@ module _ {L : Type 0} (same : L → L → Bool) (same-iff : (a b : L) → T (sam
       let high = lastFrom ns n f low (n - suc low) low in
       cond (ltb low n) (map (widen low high) (inner (at f low)) ++ runsFrom ns inner n f k (suc high)) []
 
-  runs-are : (ns : List ℕ) (inner : (Packet → L) → List (Listed L)) (Inner : Lister L) → ((f : Packet → L) → Inner f (inner f))
+  -- those runs are the runs
+  pub runs-computed : (ns : List ℕ) (inner : (Packet → L) → List (Listed L)) (Inner : Lister L) → ((f : Packet → L) → Inner f (inner f))
       → (n : ℕ) (f : Packet → L) (k low : ℕ) → n ≤ low + k → Runs ns Inner n f low (runsFrom ns inner n f k low)
   unfolding runsFrom
-  runs-are ns inner Inner inner-is n f zero low h = no-more {low = low} (omega arith)
-  runs-are ns inner Inner inner-is n f (suc k) low h =
+  runs-computed ns inner Inner inner-is n f zero low h = no-more {low = low} (omega arith)
+  runs-computed ns inner Inner inner-is n f (suc k) low h =
       let high = lastFrom ns n f low (n - suc low) low in
       elim (decLt low n) [
         | yes l ↦
             let r = last-is ns n f low (n - suc low) low (omega arith) (omega arith) (λ x a b. subst (λ (y : ℕ). Agree ns (at f low) (at f y)) (omega arith) (agree-refl (at f low))) in
             rw (lt-ltb low n l)
-            (run (r .rises) (r .below) (r .agrees) (r .stops) (inner-is (at f low)) (runs-are ns inner Inner inner-is n f k (suc high) (omega (arith, r .rises))))
+            (run (r .rises) (r .below) (r .agrees) (r .stops) (inner-is (at f low)) (runs-computed ns inner Inner inner-is n f k (suc high) (omega (arith, r .rises))))
         | no l ↦ rw (le-ltb low n (omega arith)) (no-more {low = low} (omega arith))
       ]
 
@@ -104,4 +105,4 @@ module _ {L : Type 0} (same : L → L → Bool) (same-iff : (a b : L) → T (sam
           | yes t ↦ rw (passed (same (f []) good) t) (is-good (same-iff (f []) good .0 t))
           | no t ↦ rw (failed (same (f []) good) t) (at-fault (λ e. t (same-iff (f []) good .1 e)))
         ]
-    listing-computed (n ∷ ns) f = runs-are ns (listingOf ns) (Listing good ns) (listing-computed ns) n f n 0 (omega arith)
+    listing-computed (n ∷ ns) f = runs-computed ns (listingOf ns) (Listing good ns) (listing-computed ns) n f n 0 (omega arith)

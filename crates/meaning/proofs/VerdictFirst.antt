@@ -37,7 +37,7 @@ IsBest ns r (some p) = FirstOf ns r p
 
 module _ (n : ℕ) (ns : List ℕ) where
   -- what holds of the packets whose first number is below n, and where it is n, holds below suc n
-  split : (P : Packet → Type 0) → ((q : Packet) → InRange (n ∷ ns) q → P q) → ((q : Packet) → InRange ns q → P (n ∷ q)) → (q : Packet)
+  pub split : (P : Packet → Type 0) → ((q : Packet) → InRange (n ∷ ns) q → P q) → ((q : Packet) → InRange ns q → P (n ∷ q)) → (q : Packet)
       → InRange (suc n ∷ ns) q → P q
   split P below here q (range-more {x} {p} h i) =
       elim (decLt x n) [ yes l ↦ below (x ∷ p) (range-more l i) | no l ↦ subst (λ (y : ℕ). P (y ∷ p)) (omega arith) (here p i) ]
@@ -54,7 +54,8 @@ module _ (n : ℕ) (ns : List ℕ) where
     abbrev here : Packet → ℕ
     here p = r (n ∷ p)
 
-    kept : (p : Packet) → FirstOf (n ∷ ns) r p → ((q : Packet) → InRange ns q → r p ≤ r (n ∷ q)) → FirstOf (suc n ∷ ns) r p
+    -- the best below n is the best below suc n, if none of those at n is better
+    pub kept : (p : Packet) → FirstOf (n ∷ ns) r p → ((q : Packet) → InRange ns q → r p ≤ r (n ∷ q)) → FirstOf (suc n ∷ ns) r p
     kept p o all =
         record {
           in-range = wider (o .in-range);
@@ -62,7 +63,8 @@ module _ (n : ℕ) (ns : List ℕ) where
           first = λ q i b. o .first q (before-below (o .in-range) i b) b;
         }
 
-    taken : (q : Packet) → ((p : Packet) → InRange (n ∷ ns) p → r (n ∷ q) < r p) → FirstOf ns here q → FirstOf (suc n ∷ ns) r (n ∷ q)
+    -- the best at n is, if it is better than all below n
+    pub taken : (q : Packet) → ((p : Packet) → InRange (n ∷ ns) p → r (n ∷ q) < r p) → FirstOf ns here q → FirstOf (suc n ∷ ns) r (n ∷ q)
     taken q all o =
         record {
           in-range = range-more {n = suc n} {x = n} (omega arith) (o .in-range);
@@ -85,7 +87,7 @@ module _ (n : ℕ) (ns : List ℕ) where
           | no l ↦ rw (le-ltb (r (n ∷ q)) (r p) (omega arith)) (kept p a (λ s i. omega (arith, b .lowest-rank s i)))
         ]
 
-only-empty : (r : Packet → ℕ) → FirstOf [] r []
+pub only-empty : (r : Packet → ℕ) → FirstOf [] r []
 only-empty r = record { in-range = range-none; lowest-rank = least; first = λ q i b. absurd (lowest-is-least [] q b) }
   where
     least : (q : Packet) → InRange [] q → r [] ≤ r q

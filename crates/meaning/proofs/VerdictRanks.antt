@@ -44,7 +44,8 @@ module _ (b : ℕ) (l : Label) where
   unfolding rankOf
   unmet-ranks = ⊎-elim (by-kind 4) (by-kind 5)
 
-  good-ranks : l ≡ good → rank b l ≡ b + 2
+  -- good comes last
+  pub good-ranks : l ≡ good → rank b l ≡ b + 2
   unfolding rankOf kind
   good-ranks e = by-kind 0 (ap kind e)
 
@@ -97,3 +98,12 @@ module _
     first-good-conforms e =
         let r = good-ranks b (f p) e in
         case-conforms (no-conflicts (omega (arith, r))) (no-blames (omega (arith, r))) (λ q i u. omega (arith, r, o .lowest-rank q i, unmet-ranks b (f q) u))
+
+-- no packet is below the rank of good
+pub none-below-good-conforms : (ns : List ℕ) (f : Packet → Label) (asking : Action → Packet → ℕ) (b : ℕ) → ((q : Packet) → InRange ns q → Numbered b (f q))
+    → ((q : Packet) → InRange ns q → b + 2 ≤ rank b (f q))
+    → IsVerdict ns f asking (conforms ns)
+none-below-good-conforms ns f asking b numbered all =
+    case-conforms (λ q i e. omega (arith, all q i, conflict-ranks b (f q) e))
+    (λ n q i w. omega (arith, all q i, rule-ranks b (f q) (w .0), numbered q i (w .0) .1))
+    (λ q i u. omega (arith, all q i, unmet-ranks b (f q) u))

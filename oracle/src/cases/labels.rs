@@ -2,10 +2,11 @@
 //! blocks, beside them, inside them and anywhere.
 
 use super::*;
+use crate::faults::blocks;
 use crate::model::{Bounds, FIELDS, LARGEST};
 
 /// Draws the bounds of one field.
-type Shape = fn(&mut Random, usize) -> Bounds;
+pub type Shape = fn(&mut Random, usize) -> Bounds;
 
 pub fn write(script: &mut Script, random: &mut Random) {
     for (name, shape, pairs) in [
@@ -49,17 +50,6 @@ fn labels(
     }
 }
 
-/// All blocks within the counts.
-fn blocks(rules: &RuleSet, policy: &PolicySet) -> Vec<Block> {
-    let rules = &rules.records[..rules.count as usize];
-    let directives = &policy.directives[..policy.directive_count as usize];
-    let exceptions = &policy.exceptions[..policy.exception_count as usize];
-    let mut blocks: Vec<Block> = rules.iter().map(|rule| rule.block).collect();
-    blocks.extend(directives.iter().map(|directive| directive.block));
-    blocks.extend(exceptions.iter().map(|exception| exception.block));
-    blocks
-}
-
 /// Four numbers a field, three for the protocol.
 pub fn corner(random: &mut Random, field: usize) -> Bounds {
     let last = if field == 2 { 2 } else { 3 };
@@ -71,12 +61,12 @@ pub fn corner(random: &mut Random, field: usize) -> Bounds {
 }
 
 /// The low corner turned over to the largest numbers.
-fn high_corner(random: &mut Random, field: usize) -> Bounds {
+pub fn high_corner(random: &mut Random, field: usize) -> Bounds {
     let Bounds { low, high } = corner(random, field);
     Bounds::new(LARGEST[field] - high, LARGEST[field] - low)
 }
 
-fn ends(random: &mut Random, field: usize) -> Bounds {
+pub fn ends(random: &mut Random, field: usize) -> Bounds {
     let largest = LARGEST[field];
     let middle = random.between(1, largest - 1);
     let tried = [
@@ -94,7 +84,7 @@ fn ends(random: &mut Random, field: usize) -> Bounds {
 }
 
 /// Prefixes of a few addresses, one protocol or all, and a few ports.
-fn network(random: &mut Random, field: usize) -> Bounds {
+pub fn network(random: &mut Random, field: usize) -> Bounds {
     if random.one_in(4) {
         return Bounds::new(0, LARGEST[field]);
     }
@@ -114,7 +104,7 @@ fn network(random: &mut Random, field: usize) -> Bounds {
 }
 
 /// A prefix of 256 addresses or fewer.
-fn prefix(random: &mut Random, base: u32) -> Bounds {
+pub fn prefix(random: &mut Random, base: u32) -> Bounds {
     let size = 1 << random.between(0, 8);
     let low = base + size * random.between(0, 256 / size - 1);
     Bounds::new(low, low + size - 1)
@@ -138,12 +128,12 @@ fn strips_of_network(random: &mut Random, field: usize) -> Bounds {
     Bounds::new(moved(low), moved(high))
 }
 
-fn random_block(random: &mut Random, shape: Shape) -> Block {
+pub fn random_block(random: &mut Random, shape: Shape) -> Block {
     Block(std::array::from_fn(|field| shape(random, field)))
 }
 
 /// A block inside the given one.
-fn nested(random: &mut Random, block: Block) -> Block {
+pub fn nested(random: &mut Random, block: Block) -> Block {
     Block(block.0.map(|bounds| {
         if random.one_in(2) {
             return bounds;
@@ -153,7 +143,7 @@ fn nested(random: &mut Random, block: Block) -> Block {
     }))
 }
 
-fn random_action(random: &mut Random) -> Action {
+pub fn random_action(random: &mut Random) -> Action {
     random.pick(&[Action::Accept, Action::Deny])
 }
 
@@ -182,7 +172,7 @@ pub fn random_sets(
     (RuleSet::new(rules), PolicySet::new(directives, exceptions))
 }
 
-fn random_exceptions(
+pub fn random_exceptions(
     random: &mut Random,
     directives: &[Directive],
     count: usize,
@@ -198,7 +188,7 @@ fn random_exceptions(
         .collect()
 }
 
-const CHANGES: usize = 10;
+pub const CHANGES: usize = 10;
 
 /// A policy whose directives lie in different sources, and rules that do just
 /// what it asks, but for one change in all cases except the first.
@@ -238,7 +228,7 @@ pub fn nearly_conforming(random: &mut Random, change: usize) -> (RuleSet, Policy
 }
 
 /// The rules that do what the policy asks: before each directive its exceptions.
-fn following(directives: &[Directive], exceptions: &[Exception]) -> Vec<Rule> {
+pub fn following(directives: &[Directive], exceptions: &[Exception]) -> Vec<Rule> {
     let mut rules = vec![];
     for (number, directive) in (1..).zip(directives) {
         for exception in exceptions {

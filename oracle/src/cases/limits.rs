@@ -1,4 +1,4 @@
-//! Both sides of every limit of refusal 14.
+//! Both sides of every limit of refusal 14, for each call on sets.
 
 use super::*;
 use crate::model::{Bounds, FIELDS, LARGEST};
@@ -35,9 +35,9 @@ pub fn write(script: &mut Script) {
 fn empty_sets(script: &mut Script) {
     script.group("form: both sets empty");
     script.sets(&no_rules(), &no_policy());
-    script.form_and_label(Packet::LOWEST);
-    script.form_and_label(MIDDLE);
-    script.form_and_label(Packet(LARGEST));
+    script.ask(Packet::LOWEST);
+    script.ask(MIDDLE);
+    script.ask(Packet(LARGEST));
 }
 
 /// Counts on both sides of a limit, and counts that a narrower number would take
@@ -54,7 +54,7 @@ fn counts_of_rules(script: &mut Script) {
     for count in around(MOST_RULES) {
         rules.count = count;
         script.sets(&rules, &no_policy());
-        script.form_and_label(MIDDLE);
+        script.ask(MIDDLE);
     }
 }
 
@@ -65,7 +65,7 @@ fn counts_of_directives(script: &mut Script) {
     for count in around(MOST_DIRECTIVES) {
         policy.directive_count = count;
         script.sets(&no_rules(), &policy);
-        script.form_and_label(MIDDLE);
+        script.ask(MIDDLE);
     }
 }
 
@@ -75,7 +75,7 @@ fn counts_of_exceptions(script: &mut Script) {
     for count in around(MOST_EXCEPTIONS) {
         policy.exception_count = count;
         script.sets(&no_rules(), &policy);
-        script.form_and_label(MIDDLE);
+        script.ask(MIDDLE);
     }
 }
 
@@ -99,18 +99,18 @@ fn bounds_of_records(script: &mut Script) {
 
             script.group(&format!("form: {name} with {what} in a rule"));
             script.sets(&RuleSet::new(vec![accept(block)]), &no_policy());
-            script.form_and_label(packet);
+            script.ask(packet);
 
             script.group(&format!("form: {name} with {what} in a directive"));
             let policy = PolicySet::new(vec![ask_deny(block)], vec![]);
             script.sets(&no_rules(), &policy);
-            script.form_and_label(packet);
+            script.ask(packet);
 
             script.group(&format!("form: {name} with {what} in an exception"));
             let directive = ask_deny(Block::WIDEST);
             let policy = PolicySet::new(vec![directive], vec![except(1, block)]);
             script.sets(&no_rules(), &policy);
-            script.form_and_label(packet);
+            script.ask(packet);
         }
     }
 }
@@ -164,12 +164,12 @@ fn packets(script: &mut Script) {
         for number in numbers {
             let mut packet = MIDDLE;
             packet.0[field] = number;
-            script.form_and_label(packet);
+            script.ask(packet);
         }
     }
-    script.form_and_label(Packet([u32::MAX, u32::MAX, 255, 65_535]));
-    script.form_and_label(Packet([u32::MAX, u32::MAX, 256, 65_536]));
-    script.form_and_label(Packet([u32::MAX; FIELDS]));
+    script.ask(Packet([u32::MAX, u32::MAX, 255, 65_535]));
+    script.ask(Packet([u32::MAX, u32::MAX, 256, 65_536]));
+    script.ask(Packet([u32::MAX; FIELDS]));
 }
 
 /// Blocks that are out of form, from nearly in form to all numbers huge.
@@ -192,7 +192,7 @@ fn records_and_counts_of_rules(script: &mut Script) {
             for counted in [count, count - 1] {
                 rules.count = counted as u32;
                 script.sets(&rules, &no_policy());
-                script.form_and_label(Packet::LOWEST);
+                script.ask(Packet::LOWEST);
             }
         }
     }
@@ -201,8 +201,8 @@ fn records_and_counts_of_rules(script: &mut Script) {
     for count in [0, 1, 2] {
         rules.count = count;
         script.sets(&rules, &no_policy());
-        script.form_and_label(MIDDLE);
-        script.form_and_label(Packet::LOWEST);
+        script.ask(MIDDLE);
+        script.ask(Packet::LOWEST);
     }
 }
 
@@ -215,7 +215,7 @@ fn records_and_counts_of_directives(script: &mut Script) {
             for counted in [count, count - 1] {
                 policy.directive_count = counted as u32;
                 script.sets(&no_rules(), &policy);
-                script.form_and_label(Packet::LOWEST);
+                script.ask(Packet::LOWEST);
             }
         }
     }
@@ -224,8 +224,8 @@ fn records_and_counts_of_directives(script: &mut Script) {
     for count in [0, 1, 2] {
         policy.directive_count = count;
         script.sets(&no_rules(), &policy);
-        script.form_and_label(MIDDLE);
-        script.form_and_label(Packet::LOWEST);
+        script.ask(MIDDLE);
+        script.ask(Packet::LOWEST);
     }
 }
 
@@ -249,7 +249,7 @@ fn records_and_counts_of_exceptions(script: &mut Script) {
         for count in [2, 1] {
             policy.exception_count = count;
             script.sets(&no_rules(), &policy);
-            script.form_and_label(MIDDLE);
+            script.ask(MIDDLE);
         }
     }
     script.group("form: the first and the 64th exception bad, within the count and past it");
@@ -259,7 +259,7 @@ fn records_and_counts_of_exceptions(script: &mut Script) {
         for counted in [count, count - 1] {
             policy.exception_count = counted as u32;
             script.sets(&no_rules(), &policy);
-            script.form_and_label(MIDDLE);
+            script.ask(MIDDLE);
         }
     }
     script.group("form: an exception past the count that would hold the packet");
@@ -267,7 +267,7 @@ fn records_and_counts_of_exceptions(script: &mut Script) {
     for count in [0, 1] {
         policy.exception_count = count;
         script.sets(&no_rules(), &policy);
-        script.form_and_label(MIDDLE);
+        script.ask(MIDDLE);
     }
 }
 
@@ -291,7 +291,7 @@ fn order_of_exceptions(script: &mut Script) {
         let directives = vec![ask_accept(ROOM), ask_accept(ROOM), ask_accept(ROOM)];
         let exceptions = order.iter().map(|number| except(*number, ROOM)).collect();
         script.sets(&no_rules(), &PolicySet::new(directives, exceptions));
-        script.form_and_label(MIDDLE);
+        script.ask(MIDDLE);
     }
 }
 
@@ -310,7 +310,7 @@ fn directives_named(script: &mut Script) {
                 short.directives[count as usize + 1..].fill(Directive::ZERO);
             }
             script.sets(&no_rules(), &short);
-            script.form_and_label(MIDDLE);
+            script.ask(MIDDLE);
         }
     }
 }
@@ -340,20 +340,20 @@ fn inside_the_directive(script: &mut Script) {
         let directives = vec![ask_accept(small), ask_accept(ROOM)];
         let policy = PolicySet::new(directives, vec![except(number, ROOM)]);
         script.sets(&no_rules(), &policy);
-        script.form_and_label(MIDDLE);
+        script.ask(MIDDLE);
     }
     script.group("form: exceptions that overlap and repeat");
     let exceptions = vec![except(1, ROOM), except(1, small), except(1, ROOM)];
     let policy = PolicySet::new(vec![ask_accept(ROOM)], exceptions);
     script.sets(&no_rules(), &policy);
-    script.form_and_label(MIDDLE);
+    script.ask(MIDDLE);
 }
 
 /// A policy of the room with one exception.
 fn excepted(script: &mut Script, block: Block) {
     let policy = PolicySet::new(vec![ask_accept(ROOM)], vec![except(1, block)]);
     script.sets(&no_rules(), &policy);
-    script.form_and_label(MIDDLE);
+    script.ask(MIDDLE);
 }
 
 fn told_first(script: &mut Script) {
@@ -374,6 +374,6 @@ fn told_first(script: &mut Script) {
         let asked = ask_deny(if good_policy { ROOM } else { falling });
         let policy = PolicySet::new(vec![asked], vec![]);
         script.sets(&rules, &policy);
-        script.form_and_label(if good_packet { MIDDLE } else { past });
+        script.ask(if good_packet { MIDDLE } else { past });
     }
 }

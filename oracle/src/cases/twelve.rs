@@ -4,15 +4,7 @@ use super::{accept, ask_accept, ask_deny, deny, except, Script};
 use crate::model::{Block, Bounds, Packet, PolicySet, RuleSet};
 
 pub fn write(script: &mut Script) {
-    let rules = RuleSet::new(vec![
-        accept(block(bay(), prefix(30, 4, 2))),
-        accept(block(one(20, 9), one(30, 6))),
-        deny(block(bay(), one(30, 6))),
-    ]);
-    let asked = ask_accept(block(bay(), prefix(30, 4, 4)));
-    let exception = except(1, block(bay(), one(30, 6)));
-    let policy = PolicySet::new(vec![asked], vec![exception]);
-
+    let (rules, policy) = first_sets();
     script.group("the twelve labels: the first sets");
     script.sets(&rules, &policy);
     one_label(script, "L1 good", packet(0, 1, 4));
@@ -28,21 +20,46 @@ pub fn write(script: &mut Script) {
     one_label(script, "L8 good", other_protocol);
 
     script.group("the twelve labels: a second directive added");
-    let any = Block::WIDEST.0[0];
-    let second = ask_deny(block(any, one(30, 5)));
-    let with_second = PolicySet::new(vec![asked, second], vec![exception]);
-    script.sets(&rules, &with_second);
+    let (rules, policy) = with_second_directive();
+    script.sets(&rules, &policy);
     one_label(script, "L9 conflict", packet(0, 1, 5));
     let far = Packet([quad(10, 21, 0, 0), quad(10, 30, 0, 5), 6, 8443]);
     one_label(script, "L10 unmet-deny", far);
 
     script.group("the twelve labels: a fourth rule added to the first sets");
-    let mut with_fourth = rules;
-    with_fourth.count = 4;
-    with_fourth.records[3] = deny(Block::WIDEST);
-    script.sets(&with_fourth, &policy);
+    let (rules, policy) = with_fourth_rule();
+    script.sets(&rules, &policy);
     one_label(script, "L11 unasked by 4", Packet::LOWEST);
     one_label(script, "L12 wrong by 4", packet(0, 3, 7));
+}
+
+/// The sets of the one whole run.
+pub fn first_sets() -> (RuleSet, PolicySet) {
+    let rules = RuleSet::new(vec![
+        accept(block(bay(), prefix(30, 4, 2))),
+        accept(block(one(20, 9), one(30, 6))),
+        deny(block(bay(), one(30, 6))),
+    ]);
+    let asked = ask_accept(block(bay(), prefix(30, 4, 4)));
+    let exception = except(1, block(bay(), one(30, 6)));
+    (rules, PolicySet::new(vec![asked], vec![exception]))
+}
+
+/// The first sets with directive 2, `ask deny * 10.30.0.5 6 8443`.
+pub fn with_second_directive() -> (RuleSet, PolicySet) {
+    let (rules, mut policy) = first_sets();
+    let any = Block::WIDEST.0[0];
+    policy.directive_count = 2;
+    policy.directives[1] = ask_deny(block(any, one(30, 5)));
+    (rules, policy)
+}
+
+/// The first sets with rule 4, `deny * * * *`.
+pub fn with_fourth_rule() -> (RuleSet, PolicySet) {
+    let (mut rules, policy) = first_sets();
+    rules.count = 4;
+    rules.records[3] = deny(Block::WIDEST);
+    (rules, policy)
 }
 
 fn one_label(script: &mut Script, name: &str, packet: Packet) {

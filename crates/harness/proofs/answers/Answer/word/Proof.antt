@@ -1,4 +1,5 @@
 -- `Answer::word` is safe and ends: its place stays below the length of the word. Assumes nothing.
+use mathlib.Core.Path.{_≡_}
 use Prim.Native.Nat.{_≤_, _-_}
 use lib.ListN.{length}
 use borrow.Author.Needs.{needs}
@@ -6,10 +7,10 @@ use Rattle.harness.proofs.answers.Answer.word.Statement.{statement}
 use Rattle.harness.proofs.answers.Answer.word.Tie as tie
 
 abbrev Inv-loop : tie.InvT-loop
-Inv-loop self₀ word i₀ i-end self i = (i ≤ i-end) × (i-end ≤ length word)
+Inv-loop output₀ word answer₀ i₀ i-end output answer i = (i ≤ i-end) × (i-end ≤ length word) × (length output ≡ length output₀)
 
 abbrev μ-loop : tie.MeasureT-loop
-μ-loop self₀ word i₀ i-end self i = i-end - i
+μ-loop output₀ word answer₀ i₀ i-end output answer i = i-end - i
 
 loop-holds : tie.Need-loop-holds Inv-loop μ-loop
 loop-holds c = search needs
@@ -29,6 +30,9 @@ loop-less c = search needs
 loop-again : tie.Need-loop-again Inv-loop μ-loop
 loop-again c = search needs
 
+same-length : tie.Need-same-length Inv-loop μ-loop
+same-length c = search needs
+
 returns : tie.Need-returns Inv-loop μ-loop
 returns c = search needs
 
@@ -44,4 +48,5 @@ word-spec =
     add-i
     loop-less
     loop-again
+    same-length
     returns)

@@ -1,16 +1,15 @@
--- `harness::line_end` meets its contract: its place starts at the line's start and goes on by one while it is below the
--- length. The measure is what is left of the input. Assumes nothing.
+-- `harness::line_length` meets its contract: its place stays below the length of the input. Assumes nothing.
 use Prim.Native.Nat.{_≤_, _-_}
 use lib.ListN.{length}
 use borrow.Author.Needs.{needs}
-use Rattle.harness.proofs.line_end.Statement.{statement}
-use Rattle.harness.proofs.line_end.Tie as tie
+use Rattle.harness.proofs.line_length.Statement.{statement}
+use Rattle.harness.proofs.line_length.Tie as tie
 
 abbrev Inv-loop : tie.InvT-loop
-Inv-loop input start end₀ end = (start ≤ end) × (end ≤ length input)
+Inv-loop input i₀ i-end i = i-end ≤ length input
 
 abbrev μ-loop : tie.MeasureT-loop
-μ-loop input start end₀ end = length input - end
+μ-loop input i₀ i-end i = i-end - i
 
 loop-holds : tie.Need-loop-holds Inv-loop μ-loop
 loop-holds c = search needs
@@ -18,11 +17,14 @@ loop-holds c = search needs
 shared-slice-read-if1 : tie.Need-shared-slice-read-if1 Inv-loop μ-loop
 shared-slice-read-if1 c = search needs
 
+add-result : tie.Need-add-result Inv-loop μ-loop
+add-result c = search needs
+
 returns : tie.Need-returns Inv-loop μ-loop
 returns c = search needs
 
-add-end : tie.Need-add-end Inv-loop μ-loop
-add-end c = search needs
+add-i : tie.Need-add-i Inv-loop μ-loop
+add-i c = search needs
 
 loop-less : tie.Need-loop-less Inv-loop μ-loop
 loop-less c = search needs
@@ -33,16 +35,17 @@ loop-again c = search needs
 returns-2 : tie.Need-returns-2 Inv-loop μ-loop
 returns-2 c = search needs
 
-pub line-end-spec : {M : Type 1} → statement M
-line-end-spec =
+pub line-length-spec : {M : Type 1} → statement M
+line-length-spec =
     tie.close
     (tie.spec
     Inv-loop
     μ-loop
     loop-holds
     shared-slice-read-if1
+    add-result
     returns
-    add-end
+    add-i
     loop-less
     loop-again
     returns-2)

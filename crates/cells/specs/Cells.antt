@@ -1,0 +1,102 @@
+-- Cells: the rules, directives and exceptions that are left in a cell, and the label that they give.
+use mathlib.Core.Bool.{Bool, true, false, cond}
+use mathlib.Core.List.{List, [], _∷_}
+use mathlib.Core.Path.{_≡_}
+use Prim.Native.Nat.{ℕ, zero, suc, _+_, _*_, _/_, _%_, _≤_}
+use lib.Bits.{bitAnd, bitOr, bitXor}
+use lib.Count.{trailingZeros}
+use lib.Dec.{eqb, ltb}
+use lib.ListN.{length, getD, drop}
+use Rattle.meaning.specs.Labels.{Label, judged}
+use Rattle.meaning.specs.Listings.{Agree}
+use Rattle.meaning.specs.Records.{nothing, found}
+use Rattle.meaning.specs.Rules.{accept, deny}
+use Rattle.cells.specs.declared.Left.{Left}
+
+-- What a walk looks at. The words are: which rules accept; which directives ask for accept; for each of 64 exceptions the digit of
+-- its directive; and from 66 on for each of 321 strips of each field the rules, directives and exceptions whose span holds it. The
+-- counts are the fields' numbers of strips.
+pub record Chart : Type 0 where
+  pub words : List ℕ
+  pub counts : List ℕ
+
+abbrev pub chart : List ℕ → List ℕ → Chart
+chart words counts = record { words = words; counts = counts }
+
+-- there are words for every strip, and no field has more strips than there is room for
+pub record Formed (w : Chart) : Type 0 where
+  pub long : length (w .words) ≡ 963 * length (w .counts) + 66
+  pub few : (field : ℕ) → getD (w .counts) field 0 ≤ 321
+
+-- x, and the directives of the exceptions in e, whose lowest digit is exception t and which are m at most
+unfoldable pub exceptedFrom : ℕ → ℕ → List ℕ → ℕ → ℕ → ℕ
+exceptedFrom zero t words e x = x
+exceptedFrom (suc m) t words e x = exceptedFrom m (t + 1) words (e / 2) (cond (eqb (e % 2) 1) (bitOr x (getD words (2 + t) 0)) x)
+
+-- the directives of the exceptions in e
+unfoldable pub exceptedBy : List ℕ → ℕ → ℕ
+exceptedBy words e = exceptedFrom 64 0 words e 0
+
+-- the label by the directives that ask accept and deny, the rules left, the first of these, and the first of these that accepts
+unfoldable pub labelBy : ℕ → ℕ → ℕ → ℕ → ℕ → Label
+labelBy asking-accept asking-deny rules t u =
+    judged (ltb 0 asking-accept) (ltb 0 asking-deny)
+    (cond (eqb rules 0) nothing (found (t + 1) (record { action = cond (eqb t u) accept deny; block = [] })))
+
+-- the directives left that ask for something, and those of them that ask for accept: an exception left asks for the opposite
+abbrev pub asking : List ℕ → Left → ℕ
+asking words s = bitOr (s .directives) (exceptedBy words (s .exceptions))
+
+abbrev pub accepting : List ℕ → Left → ℕ
+accepting words s = bitAnd (asking words s) (bitXor (getD words 1 0) (exceptedBy words (s .exceptions)))
+
+-- the label that what is left gives
+unfoldable pub leftLabel : List ℕ → Left → Label
+leftLabel words s =
+    labelBy (accepting words s) (bitXor (asking words s) (accepting words s)) (s .rules) (trailingZeros 64 (s .rules))
+    (trailingZeros 64 (bitAnd (s .rules) (getD words 0 0)))
+
+-- where the words of a strip of a field begin
+abbrev pub spot : ℕ → ℕ → ℕ
+spot field strip = 3 * (field * 321 + strip) + 66
+
+-- what is left of s at a strip of a field
+unfoldable pub leftAt : List ℕ → ℕ → ℕ → Left → Left
+leftAt words field strip s =
+    record {
+      rules = bitAnd (s .rules) (getD words (spot field strip) 0);
+      directives = bitAnd (s .directives) (getD words (spot field strip + 1) 0);
+      exceptions = bitAnd (s .exceptions) (getD words (spot field strip + 2) 0);
+    }
+
+-- the same, in a chart
+abbrev pub step : Chart → ℕ → Left → ℕ → Left
+step w field s strip = leftAt (w .words) field strip s
+
+-- what is left of s in a cell, given by its strips from a field on
+abbrev pub leftIn : Chart → ℕ → Left → List ℕ → Left
+leftIn w field s [] = s
+leftIn w field s (strip ∷ cell) = leftIn w (field + 1) (step w field s strip) cell
+
+-- the label of the cell
+abbrev pub cellLabel : Chart → ℕ → Left → List ℕ → Label
+cellLabel w field s cell = leftLabel (w .words) (leftIn w field s cell)
+
+-- the numbers of strips below a field, the field's own first
+abbrev pub below : Chart → ℕ → List ℕ
+below w field = drop field (w .counts)
+
+-- a and b give every cell below the field the same label
+abbrev pub Same : Chart → ℕ → Left → Left → Type 0
+Same w field a b = Agree (below w field) (cellLabel w field a) (cellLabel w field b)
+
+-- the answer says whether P holds
+abbrev pub Tells : Bool → Type 0 → Type 0
+Tells true P = P
+Tells false P = ¬ P
+
+-- nothing is left
+pub record Nothing (s : Left) : Type 0 where
+  pub no-rule : s .rules ≡ 0
+  pub no-directive : s .directives ≡ 0
+  pub no-exception : s .exceptions ≡ 0

@@ -1,0 +1,83 @@
+-- The label of a cell of a chart is the label of every packet in the cell. Assumes nothing.
+use mathlib.Core.Path.{_≡_, refl, sym, ap, _∙_, subst}
+use mathlib.Core.List.{List, [], _∷_, _++_}
+use Prim.Native.Nat.{ℕ, _+_, _*_, _≤_, _<_}
+use native.Mathlib.Omega.{arith}
+use lib.ListN.{length, getD, length-map, List·getD-append}
+use lib.Seq.{getD-append-add}
+use Rattle.meaning.specs.Blocks.{Block, holds}
+use Rattle.meaning.specs.Fields as meant
+use Rattle.meaning.specs.Form as form
+use Rattle.meaning.specs.Labels.{label}
+use Rattle.meaning.specs.Rules as rules
+use Rattle.meaning.specs.Strips.{Cut, InCell, ByCells}
+use Rattle.sets.specs.declared.Policy.{Policy}
+use Rattle.sets.specs.declared.Rules.{Rules}
+use Rattle.sets.specs.Vocabulary.{policySetOf}
+use Rattle.cells.specs.declared.Left.{Left}
+use Rattle.cells.specs.Cells.{chart, leftLabel, cellLabel}
+use Rattle.cells.specs.Words.{WordsOf}
+use Rattle.cells.proofs.MaskLaws.{mask-map}
+use Rattle.cells.proofs.PacketLabels.{leftAtPacket, packet-label}
+use Rattle.charts.specs.Charted.{rulesOf, ruleBlocks, directiveBlocks, exceptionBlocks, FieldsCharted, Limited, Charted}
+use Rattle.sets.specs.Inner.{directivesOf, exceptionsOf}
+use Rattle.charts.proofs.Counted.{all-four}
+use Rattle.charts.proofs.Cuts.{cutsOf}
+use Rattle.charts.proofs.Lefts.{everything, leftBy, MasksBehind, left-in-all}
+use Rattle.charts.proofs.Parts.{parts-all}
+
+-- the first words are what they are in front
+words-in-front : (rs ds : List rules.Rule) (es : List form.Exception) (front masks : List ℕ) → length front ≡ 66 → length es ≤ 64 → WordsOf rs ds es front
+    → WordsOf rs ds es (front ++ masks)
+words-in-front rs ds es front masks long few w =
+    record {
+      accepting-rules = List·getD-append front masks 0 0 (omega arith) ∙ w .accepting-rules;
+      accepting-directives = List·getD-append front masks 0 1 (omega arith) ∙ w .accepting-directives;
+      directive-digits = λ t h. List·getD-append front masks 0 (2 + t) (omega arith) ∙ w .directive-digits t h;
+    }
+
+module _ {r : Rules} {p : Policy} {words counts places : List ℕ} (limited : Limited r p) (c : Charted r p words counts places) where
+  -- the fields' charts, by the numbers of blocks
+  abbrev pub fieldsCharted : FieldsCharted (c .numbers) (length (ruleBlocks r)) (length (directiveBlocks p)) (length (exceptionBlocks p)) 0 meant.fields (c .masks) places counts
+  fieldsCharted =
+      subst (λ (e : ℕ). FieldsCharted (c .numbers) (length (ruleBlocks r)) (length (directiveBlocks p)) e 0 meant.fields (c .masks) places counts) (sym (c .counted .exceptions))
+      (subst (λ (d : ℕ). FieldsCharted (c .numbers) (length (ruleBlocks r)) d (p .«exception_count») 0 meant.fields (c .masks) places counts) (sym (c .counted .directives))
+      (subst (λ (n : ℕ). FieldsCharted (c .numbers) n (p .«directive_count») (p .«exception_count») 0 meant.fields (c .masks) places counts) (sym (c .counted .rules)) (c .each-field)))
+
+  -- the fields, cut at the places of the sets
+  abbrev pub cuts : List Cut
+  cuts = cutsOf fieldsCharted
+
+  -- the masks stand behind the front
+  behind : MasksBehind words (c .masks)
+  behind j =
+      ap (λ (ws : List ℕ). getD ws (66 + j) 0) (c .words-are)
+      ∙ ap (λ (k : ℕ). getD (c .front ++ c .masks) (k + j) 0) (sym (c .front-long))
+      ∙ getD-append-add (c .front) (c .masks) j 0
+
+  -- what holds a packet, by blocks and by records
+  by-records : (q : meant.Packet) → leftBy (ruleBlocks r) (directiveBlocks p) (exceptionBlocks p) (λ (b : Block). holds b q) ≡ leftAtPacket (rulesOf r) (directivesOf p) (exceptionsOf p) q
+  by-records q =
+      λ i.
+      record {
+        rules = mask-map (λ (b : Block). holds b q) (λ (x : rules.Rule). x .block) (rulesOf r) i;
+        directives = mask-map (λ (b : Block). holds b q) (λ (x : rules.Rule). x .block) (directivesOf p) i;
+        exceptions = mask-map (λ (b : Block). holds b q) (λ (x : form.Exception). x .block) (exceptionsOf p) i;
+      }
+
+  pub cell-labels : ByCells cuts (cellLabel (chart words counts) 0 everything) (label (rulesOf r) (form.policyOf (policySetOf p)))
+  unfolding form.policyOf
+  cell-labels cell q lies =
+      let few-rules : length (ruleBlocks r) ≤ 64 = omega (arith, c .counted .rules, limited .few-rules) in
+      let few-directives : length (directiveBlocks p) ≤ 64 = omega (arith, c .counted .directives, limited .few-directives) in
+      let few-exceptions : length (exceptionBlocks p) ≤ 64 = omega (arith, c .counted .exceptions, limited .few-exceptions) in
+      let rules-few : length (rulesOf r) ≤ 64 = omega (arith, length-map (rulesOf r) (λ (x : rules.Rule). x .block)) in
+      let exceptions-few : length (exceptionsOf p) ≤ 64 = omega (arith, length-map (exceptionsOf p) (λ (x : form.Exception). x .block)) in
+      let front : WordsOf (rulesOf r) (directivesOf p) (exceptionsOf p) words =
+      subst (WordsOf (rulesOf r) (directivesOf p) (exceptionsOf p)) (sym (c .words-are))
+      (words-in-front (rulesOf r) (directivesOf p) (exceptionsOf p) (c .front) (c .masks) (c .front-long) exceptions-few (c .front-words)) in
+      sym
+      (ap (leftLabel words)
+      (left-in-all (c .numbers) words counts (c .masks) behind (ruleBlocks r) (directiveBlocks p) (exceptionBlocks p) (all-four r p) (c .numbered) fieldsCharted refl few-rules few-directives few-exceptions (parts-all 963 (c .masks)) lies
+      ∙ by-records q)
+      ∙ packet-label (rulesOf r) (directivesOf p) (exceptionsOf p) words q rules-few exceptions-few front)

@@ -1,0 +1,70 @@
+-- The places of a chart give the low corner of a cell, and the numbers of a block of strips. Assumes nothing.
+use mathlib.Core.Path.{_≡_, refl, sym, ap, _∙_}
+use mathlib.Core.List.{List, [], _∷_, _++_}
+use Prim.Native.Nat.{ℕ, zero, suc, _+_, _*_, _-_, _^_, _≤_, _<_}
+use native.Mathlib.Omega.{arith}
+use native.Mathlib.Decide.{decLt}
+use native.Mathlib.Numerals.{add-one}
+use lib.Dec.{T}
+use lib.ListN.{length, getD, take, length-append, List·getD-append, List·getD-eq-default}
+use lib.Seq.{getD-take, getD-append-add, getD-at}
+use Rattle.meaning.specs.Blocks.{Span, Block}
+use Rattle.meaning.specs.Fields.{Packet, InRange, range-none, range-more}
+use Rattle.meaning.specs.Form.{blockInForm}
+use Rattle.meaning.specs.Records.{Every, every-none, every-more}
+use Rattle.meaning.specs.Strips.{Cut, place, corner, stretch}
+use Rattle.meaning.proofs.FormLaws.{block-in-form-iff}
+use Rattle.meaning.proofs.StripCells.{place-size}
+use Rattle.strips.specs.Charts.{ChartedField}
+use Rattle.charts.specs.Charted.{FieldsCharted, charted-none, charted-more}
+use Rattle.charts.proofs.Cuts.{fieldCut, cutsOf}
+use Rattle.charts.proofs.Parts.{PartsFrom, parts-here, parts-later}
+
+-- within a list, what stands for what lies past it does not matter
+any-default : (xs : List ℕ) (i d e : ℕ) → i < length xs → getD xs i d ≡ getD xs i e
+any-default [] i d e h = absurd (omega arith)
+any-default (x ∷ xs) zero d e h = refl
+any-default (x ∷ xs) (suc i) d e h = any-default xs i d e (omega arith)
+
+-- The chart of a field has the places of its cut, and behind them the size.
+module _ {numbers : List ℕ} {field n rules directives exceptions : ℕ} {masks places : List ℕ} {count : ℕ}
+    (c : ChartedField numbers field n rules directives exceptions masks places count) where
+  pub place-charted : (i : ℕ) → i ≤ count → getD places i 0 ≡ place (fieldCut c) i
+  place-charted i h =
+      sym (getD-take (count + 1) places i 0 (omega arith))
+      ∙ ap (λ (xs : List ℕ). getD xs i 0) (c .placed)
+      ∙ elim (decLt i (length (c .all))) [
+        | yes l ↦ List·getD-append (c .all) (n ∷ []) 0 i l ∙ any-default (c .all) i 0 n l
+        | no l ↦
+            getD-at (c .all) n [] 0 i (omega (arith, c .counted)) ∙ sym (List·getD-eq-default (c .all) n {n = i} (omega arith))
+      ]
+
+  -- a strip begins below the size; it has ended above 0 and not past the size
+  pub strip-begins : (i : ℕ) → i < count → getD places i 0 < n
+  strip-begins i h =
+      omega
+      (arith, place-charted i (omega arith), fieldCut c .rising i (omega (arith, c .counted)), place-size (fieldCut c) (suc i) (omega (arith, c .counted)))
+
+  pub strip-ends : (i : ℕ) → i < count → (0 < getD places (i + 1) 0) × (getD places (i + 1) 0 ≤ n)
+  strip-ends i h =
+      let next = ap (λ (j : ℕ). place (fieldCut c) j) (add-one i) in
+      let at = place-charted (i + 1) (omega arith) in
+      (omega (arith, at, next, fieldCut c .rising i (omega (arith, c .counted))), omega (arith, at, next, place-size (fieldCut c) (suc i) (omega (arith, c .counted))))
+
+module _ (places : List ℕ) where
+  -- the place of a strip in each field from a field on
+  abbrev pub cornerIn : ℕ → List ℕ → Packet
+  cornerIn field [] = []
+  cornerIn field (i ∷ cell) = getD places (322 * field + i) 0 ∷ cornerIn (field + 1) cell
+
+  module _ {numbers : List ℕ} {rules directives exceptions : ℕ} where
+    pub corner-charted : {field : ℕ} {ns masks part counts : List ℕ} (f : FieldsCharted numbers rules directives exceptions field ns masks part counts)
+        → PartsFrom 322 places field part
+        → {cell : List ℕ}
+        → InRange counts cell
+        → corner (cutsOf f) cell ≡ cornerIn field cell
+    unfolding corner
+    corner-charted charted-none there range-none = refl
+    corner-charted {field} (charted-more {places = xs} {more-places = more} c long wide later) there (range-more {x = i} h r) =
+        let here = parts-here 322 places field xs more there i (omega (arith, c .few)) ∙ place-charted c i (omega arith) in
+        λ t. sym here t ∷ corner-charted later (parts-later 322 places field xs more there wide) r t

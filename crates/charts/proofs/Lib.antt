@@ -1,0 +1,14 @@
+-- The laws of charts.
+pub mod Parts
+pub mod FieldCharts
+pub mod Cuts
+pub mod Lefts
+pub mod CellLabels
+pub mod Corners
+mod Counted
+mod Storing
+mod Within
+mod MaskWalk
+mod BlockWalk
+mod FrontWords
+mod FieldWalk

@@ -1,0 +1,67 @@
+-- Runs of stores into an array, one behind the other: numbers, and the bounds of blocks. Assumes nothing.
+use mathlib.Core.Path.{_≡_, refl, sym, ap, _∙_}
+use mathlib.Core.List.{List, [], _∷_, _++_, append-assoc}
+use Prim.Native.Nat.{ℕ, suc, _+_, _*_, _≤_}
+use native.Mathlib.Nat.{add-zero, add-suc, suc-add}
+use native.Mathlib.Omega.{arith}
+use lib.ListN.{length, take, drop, set, length-append}
+use lib.Seq.{sets, sets-eq, take-at, length-take-le}
+use Rattle.meaning.specs.Blocks.{Block}
+use Rattle.meaning.specs.Buffers.{bounds}
+use Rattle.cells.proofs.Stores.{sets-append}
+use Rattle.strips.specs.Spans.{numbersOf}
+use Rattle.strips.specs.Spans.{InFront}
+
+-- eight stores, written out
+pub eight-stores : (l : List ℕ) (i a b c d e f g h : ℕ)
+    → set (set (set (set (set (set (set (set l i a) (i + 1) b) (i + 2) c) (i + 3) d) (i + 4) e) (i + 5) f) (i + 6) g) (i + 7) h
+    ≡ sets l i (a ∷ b ∷ c ∷ d ∷ e ∷ f ∷ g ∷ h ∷ [])
+eight-stores l i a b c d e f g h =
+    let one : i + 1 ≡ suc i = omega arith in
+    let two : i + 2 ≡ suc (suc i) = omega arith in
+    let three : i + 3 ≡ suc (suc (suc i)) = omega arith in
+    let four : i + 4 ≡ suc (suc (suc (suc i))) = omega arith in
+    let five : i + 5 ≡ suc (suc (suc (suc (suc i)))) = omega arith in
+    let six : i + 6 ≡ suc (suc (suc (suc (suc (suc i))))) = omega arith in
+    let seven : i + 7 ≡ suc (suc (suc (suc (suc (suc (suc i)))))) = omega arith in
+    λ t. set (set (set (set (set (set (set (set l i a) (one t) b) (two t) c) (three t) d) (four t) e) (five t) f) (six t) g) (seven t) h
+
+-- a run of stores from the front on stands in front of the array
+pub sets-front : (xs l : List ℕ) → length xs ≤ length l → take (length xs) (sets l 0 xs) ≡ xs
+sets-front xs l fits = ap (take (length xs)) (sets-eq xs l 0 (omega arith)) ∙ take-at xs (drop (0 + length xs) l) (length xs) refl
+
+-- the numbers of two runs of blocks
+pub numbers-append : (bs cs : List Block) → numbersOf (bs ++ cs) ≡ numbersOf bs ++ numbersOf cs
+unfolding numbersOf
+numbers-append [] cs = refl
+numbers-append (b ∷ bs) cs =
+    ap (λ (l : List ℕ). bounds b ++ l) (numbers-append bs cs) ∙ sym (append-assoc (bounds b) (numbersOf bs) (numbersOf cs))
+
+-- the numbers of blocks stored behind those of others
+pub stored-behind : (l : List ℕ) (start at : ℕ) (bs cs : List Block) → at ≡ start + length (numbersOf bs)
+    → sets (sets l start (numbersOf bs)) at (numbersOf cs) ≡ sets l start (numbersOf (bs ++ cs))
+stored-behind l start at bs cs behind =
+    ap (λ (k : ℕ). sets (sets l start (numbersOf bs)) k (numbersOf cs)) behind
+    ∙ sym (ap (sets l start) (numbers-append bs cs) ∙ sets-append (numbersOf bs) (numbersOf cs) l start)
+
+-- the bounds of rules, directives and exceptions, stored one after the other: they stand in front of the array
+pub blocks-in-front : (l : List ℕ) (rs ds es : List Block) (r d e : ℕ)
+    → length (numbersOf rs) ≡ 8 * r
+    → length (numbersOf ds) ≡ 8 * d
+    → length (numbersOf es) ≡ 8 * e
+    → 8 * (r + d + e) ≤ length l
+    → (one two three : List ℕ)
+    → one ≡ sets l 0 (numbersOf rs)
+    → two ≡ sets one (8 * r) (numbersOf ds)
+    → three ≡ sets two (8 * (r + d)) (numbersOf es)
+    → InFront (rs ++ ds ++ es) three
+blocks-in-front l rs ds es r d e long-rs long-ds long-es room one two three is-one is-two is-three =
+    let long : length (numbersOf (rs ++ ds)) ≡ 8 * (r + d) =
+    ap length (numbers-append rs ds) ∙ length-append (numbersOf rs) (numbersOf ds) ∙ omega arith in
+    let long-all : length (numbersOf (rs ++ ds ++ es)) ≡ 8 * (r + d + e) =
+    ap length (numbers-append (rs ++ ds) es) ∙ length-append (numbersOf (rs ++ ds)) (numbersOf es) ∙ omega arith in
+    let both : two ≡ sets l 0 (numbersOf (rs ++ ds)) =
+    is-two ∙ ap (λ (x : List ℕ). sets x (8 * r) (numbersOf ds)) is-one ∙ stored-behind l 0 (8 * r) rs ds (omega arith) in
+    let all : three ≡ sets l 0 (numbersOf (rs ++ ds ++ es)) =
+    is-three ∙ ap (λ (x : List ℕ). sets x (8 * (r + d)) (numbersOf es)) both ∙ stored-behind l 0 (8 * (r + d)) (rs ++ ds) es (omega arith) in
+    ap (take (length (numbersOf (rs ++ ds ++ es)))) all ∙ sets-front (numbersOf (rs ++ ds ++ es)) l (omega arith)

@@ -1,0 +1,257 @@
+// The chart of a rule set and a policy: what a walk over their strips looks at. It puts the bounds of all blocks side by side,
+// tells which rules and directives accept and which directive each exception names, and fills the chart of each field. The
+// contract of `chart` says that the lent arrays are filled as `specs/Charted` says.
+
+use blocks::Block;
+use cells::FIELDS;
+use cells::FIRST_MASK;
+use cells::MOST_STRIPS;
+use sets::Action;
+use sets::Policy;
+use sets::Rules;
+ghost use mathlib.Core.Bool.{cond};
+ghost use mathlib.Core.Path.{_≡_};
+ghost use Prim.Native.Nat.{_+_, _*_, _≤_};
+ghost use lib.ListN.{length, take};
+ghost use lib.Seq.{sets};
+ghost use Rattle.meaning.specs.Buffers.{bounds};
+ghost use Rattle.meaning.specs.Fields.{fields};
+ghost use Rattle.blocks.specs.Vocabulary.{blockOf};
+ghost use Rattle.sets.specs.Vocabulary.{actionOf};
+ghost use Rattle.meaning.specs.Rules.{accept, sameAction};
+ghost use Rattle.cells.specs.Masks.{mask};
+ghost use Rattle.cells.specs.Words.{accepts, directiveDigit, WordsOf};
+ghost use Rattle.strips.specs.Spans.{numbersOf};
+ghost use Rattle.charts.specs.Charted.{BlocksCounted, Limited, rulesOf, FieldsCharted, Charted};
+ghost use Rattle.sets.specs.Inner.{directivesOf, exceptionsOf};
+ghost use Rattle.charts.specs.Charted.{ruleBlocks, directiveBlocks, exceptionBlocks};
+ghost use Rattle.charts.specs.Inner.{digitsOf};
+ghost use Rattle.charts.specs.Charted.{allBlocks};
+ghost use Rattle.strips.specs.Spans.{InFront};
+
+// The numbers of a block: two bounds for each field.
+const BOUNDS: usize = 2 * FIELDS;
+
+// The numbers of all blocks.
+const NUMBERS: usize = BOUNDS * (sets::MOST_RULES + sets::MOST_DIRECTIVES + sets::MOST_EXCEPTIONS);
+
+// The masks of a field, three for each strip, and its places: where each strip begins, and the size.
+const FIELD_MASKS: usize = 3 * MOST_STRIPS;
+
+const FIELD_PLACES: usize = MOST_STRIPS + 1;
+
+// The words and the places of a chart.
+pub const WORDS: usize = FIRST_MASK + FIELDS * FIELD_MASKS;
+
+pub const PLACES: usize = FIELDS * FIELD_PLACES;
+
+// How many numbers each field has.
+const SIZES: [u64; FIELDS] = [4294967296, 4294967296, 256, 65536];
+
+// Fills the chart of the sets.
+pub fn chart(
+    rules: Rules,
+    policy: Policy,
+    words: &mut [u64],
+    counts: &mut [usize],
+    places: &mut [u64],
+)
+    requires { ⌜ Limited rules policy ⌝ }
+    requires { ⌜ (length (now words) ≡ 3918) × (length (now counts) ≡ 4) × (length (now places) ≡ 1288) ⌝ }
+    ensures { λ r. ⌜ Charted rules policy (now (words .exit)) (now (counts .exit)) (now (places .exit)) ⌝ }
+{
+    let mut numbers = [0u32; NUMBERS];
+    put_blocks(rules, policy, &mut numbers);
+    put_front(rules, policy, words);
+    chart_fields(
+        rules.count,
+        policy.directive_count,
+        policy.exception_count,
+        &numbers,
+        &mut words[FIRST_MASK..],
+        counts,
+        places,
+    );
+}
+
+// Fills the charts of the fields, one after the other.
+fn chart_fields(
+    rules: usize,
+    directives: usize,
+    exceptions: usize,
+    numbers: &[u32],
+    masks: &mut [u64],
+    counts: &mut [usize],
+    places: &mut [u64],
+)
+    requires { ⌜ (rules ≤ 64) × (directives ≤ 32) × (exceptions ≤ 64) × (length (now numbers) ≡ 1280) ⌝ }
+    requires { ⌜ (length (now masks) ≡ 3852) × (length (now counts) ≡ 4) × (length (now places) ≡ 1288) ⌝ }
+    ensures { λ r. ⌜ FieldsCharted (now (numbers .entry)) rules directives exceptions 0 fields (now (masks .exit)) (now (places .exit)) (now (counts .exit)) ⌝ }
+{
+    let mut field: usize = 0;
+    while field < FIELDS {
+        let start = FIELD_MASKS * field;
+        let end = start + FIELD_MASKS;
+        let first = FIELD_PLACES * field;
+        let last = first + FIELD_PLACES;
+        counts[field] = strips::chart_field(
+            field,
+            SIZES[field],
+            rules,
+            directives,
+            exceptions,
+            numbers,
+            &mut masks[start..end],
+            &mut places[first..last],
+        );
+        field += 1;
+    }
+}
+
+// Writes the words that tell of actions: which rules and directives accept, and which directive each exception names.
+fn put_front(rules: Rules, policy: Policy, words: &mut [u64])
+    requires { ⌜ Limited rules policy ⌝ }
+    requires { ⌜ length (now words) ≡ 3918 ⌝ }
+    ensures { λ r. ⌜ WordsOf (rulesOf rules) (directivesOf policy) (exceptionsOf policy) (take 66 (now (words .exit))) ⌝ }
+{
+    words[0] = accepting_rules(rules);
+    words[1] = accepting_directives(policy);
+    put_digits(policy, words);
+}
+
+// Puts the bounds of all blocks side by side: those of the rules, of the directives and of the exceptions.
+fn put_blocks(rules: Rules, policy: Policy, numbers: &mut [u32])
+    requires { ⌜ Limited rules policy ⌝ }
+    requires { ⌜ length (now numbers) ≡ 1280 ⌝ }
+    ensures { λ r. ⌜ BlocksCounted rules policy ⌝ }
+    ensures { λ r. ⌜ InFront (allBlocks rules policy) (now (numbers .exit)) ⌝ }
+{
+    put_rules(rules, numbers);
+    put_directives(policy, rules.count, numbers);
+    put_exceptions(policy, rules.count + policy.directive_count, numbers);
+}
+
+// Puts the bounds of the rules' blocks at the front.
+fn put_rules(rules: Rules, numbers: &mut [u32])
+    requires { ⌜ (rules .count ≤ 64) × (length (now numbers) ≡ 1280) ⌝ }
+    ensures { λ r. ⌜ now (numbers .exit) ≡ sets (now (numbers .entry)) 0 (numbersOf (ruleBlocks rules)) ⌝ }
+{
+    let mut i: usize = 0;
+    while i < rules.count {
+        let rule = rules.records[i];
+        put_block(rule.block, i, numbers);
+        i += 1;
+    }
+}
+
+// Puts the bounds of the directives' blocks behind so many blocks.
+fn put_directives(policy: Policy, before: usize, numbers: &mut [u32])
+    requires { ⌜ (policy .«directive_count» ≤ 32) × (before + policy .«directive_count» ≤ 160) × (length (now numbers) ≡ 1280) ⌝ }
+    ensures { λ r. ⌜ now (numbers .exit) ≡ sets (now (numbers .entry)) (8 * before) (numbersOf (directiveBlocks policy)) ⌝ }
+{
+    let mut i: usize = 0;
+    while i < policy.directive_count {
+        let directive = policy.directives[i];
+        put_block(directive.block, before + i, numbers);
+        i += 1;
+    }
+}
+
+// Puts the bounds of the exceptions' blocks behind so many blocks.
+fn put_exceptions(policy: Policy, before: usize, numbers: &mut [u32])
+    requires { ⌜ (policy .«exception_count» ≤ 64) × (before + policy .«exception_count» ≤ 160) × (length (now numbers) ≡ 1280) ⌝ }
+    ensures { λ r. ⌜ now (numbers .exit) ≡ sets (now (numbers .entry)) (8 * before) (numbersOf (exceptionBlocks policy)) ⌝ }
+{
+    let mut i: usize = 0;
+    while i < policy.exception_count {
+        let exception = policy.exceptions[i];
+        put_block(exception.block, before + i, numbers);
+        i += 1;
+    }
+}
+
+// Puts the bounds of a block at its place among the blocks.
+fn put_block(block: Block, at: usize, numbers: &mut [u32])
+    requires { ⌜ 8 * at + 8 ≤ length (now numbers) ⌝ }
+    ensures { λ r. ⌜ now (numbers .exit) ≡ sets (now (numbers .entry)) (8 * at) (bounds (blockOf block)) ⌝ }
+{
+    let start = BOUNDS * at;
+    numbers[start] = block.source.low;
+    numbers[start + 1] = block.source.high;
+    numbers[start + 2] = block.destination.low;
+    numbers[start + 3] = block.destination.high;
+    numbers[start + 4] = block.protocol.low;
+    numbers[start + 5] = block.protocol.high;
+    numbers[start + 6] = block.port.low;
+    numbers[start + 7] = block.port.high;
+}
+
+// Which rules accept.
+fn accepting_rules(rules: Rules) -> u64
+    requires { ⌜ rules .count ≤ 64 ⌝ }
+    ensures { λ r. ⌜ r ≡ mask accepts (rulesOf rules) ⌝ }
+{
+    let mut mask: u64 = 0;
+    let mut i = rules.count;
+    while 0 < i {
+        i -= 1;
+        let rule = rules.records[i];
+        let action = rule.action;
+        mask = accepting(action) + 2 * mask;
+    }
+    mask
+}
+
+// Which directives ask for accept.
+fn accepting_directives(policy: Policy) -> u64
+    requires { ⌜ policy .«directive_count» ≤ 32 ⌝ }
+    ensures { λ r. ⌜ r ≡ mask accepts (directivesOf policy) ⌝ }
+{
+    let mut mask: u64 = 0;
+    let mut i = policy.directive_count;
+    while 0 < i {
+        i -= 1;
+        let directive = policy.directives[i];
+        let action = directive.action;
+        mask = accepting(action) + 2 * mask;
+    }
+    mask
+}
+
+// 1 for accept, 0 for deny.
+fn accepting(action: Action) -> u64
+    ensures { λ r. ⌜ r ≡ cond (sameAction accept (actionOf action)) 1 0 ⌝ }
+{
+    match action {
+        Action::Accept => 1,
+        Action::Deny => 0,
+    }
+}
+
+// Writes for each exception the digit of its directive, from word 2 on.
+fn put_digits(policy: Policy, words: &mut [u64])
+    requires { ⌜ (policy .«directive_count» ≤ 32) × (policy .«exception_count» ≤ 64) × (length (now words) ≡ 3918) ⌝ }
+    ensures { λ r. ⌜ now (words .exit) ≡ sets (now (words .entry)) 2 (digitsOf policy) ⌝ }
+{
+    let mut i: usize = 0;
+    while i < policy.exception_count {
+        let exception = policy.exceptions[i];
+        words[2 + i] = directive_digit(policy.directive_count, exception.directive);
+        i += 1;
+    }
+}
+
+// The digit of a directive by its number, of so many directives; 0 if there is no such directive.
+fn directive_digit(count: usize, number: u32) -> u64
+    requires { ⌜ count ≤ 32 ⌝ }
+    ensures { λ r. ⌜ r ≡ directiveDigit count number ⌝ }
+{
+    let n = number as usize;
+    if n == 0 {
+        return 0;
+    }
+    if count < n {
+        return 0;
+    }
+    1 << (n - 1)
+}

@@ -1,0 +1,108 @@
+-- Places of charts as the walks use them: of the strips of a cell, and of a block of strips. Assumes nothing.
+use mathlib.Core.Path.{_≡_, refl, sym, ap, _∙_, subst}
+use mathlib.Core.List.{List, [], _∷_, _++_, map}
+use Prim.Native.Nat.{ℕ, zero, suc, _+_, _*_, _-_, _^_, _≤_, _<_}
+use native.Mathlib.Decide.{decLt}
+use native.Mathlib.Numerals.{add-one}
+use native.Mathlib.Omega.{arith}
+use lib.Dec.{T}
+use lib.ListN.{length, getD, List·getD-eq-default}
+use Rattle.meaning.specs.Blocks.{Span, Block}
+use Rattle.meaning.specs.Buffers as buffers
+use Rattle.meaning.specs.Fields.{Packet, InRange, range-none, range-more, fields}
+use Rattle.meaning.specs.Form.{blockInForm}
+use Rattle.meaning.specs.Labels.{Label, kind, rule}
+use Rattle.meaning.specs.Listings.{Listed}
+use Rattle.meaning.specs.Records.{Every, every-none, every-more}
+use Rattle.meaning.specs.Strips.{place, corner, stretch, lift}
+use Rattle.meaning.proofs.FormLaws.{block-in-form-iff}
+use Rattle.meaning.proofs.ListingForm.{InForm}
+use Rattle.lister.specs.Rows.{spanAt, stretched, rowOf}
+use Rattle.lister.specs.Runs.{Placed}
+use Rattle.charts.specs.Charted.{FieldsCharted, charted-none, charted-more}
+use Rattle.charts.proofs.Corners.{place-charted, strip-begins, strip-ends, cornerIn}
+use Rattle.charts.proofs.Cuts.{fieldCut, cutsOf}
+use Rattle.charts.proofs.FieldCharts.{charts-long, ChartAt, chart-at}
+use Rattle.charts.proofs.Parts.{PartsFrom, parts-all, parts-here, parts-later}
+use Rattle.faults.specs.Inner.{CornerPlaced, cornerAt}
+
+-- no field has more numbers than 32 bits can tell
+size-small : (k : ℕ) → getD fields k 0 ≤ 2 ^ 32
+size-small zero = omega arith
+size-small (suc zero) = omega arith
+size-small (suc (suc zero)) = omega arith
+size-small (suc (suc (suc zero))) = omega arith
+size-small (suc (suc (suc (suc k)))) = omega arith
+
+module _ {numbers : List ℕ} {rules directives exceptions : ℕ} where
+  module _ {masks places counts : List ℕ} (f : FieldsCharted numbers rules directives exceptions 0 fields masks places counts) where
+    -- where a strip begins and ends
+    abbrev At : ℕ → ℕ → Type 0
+    At field strip =
+        (getD places (322 * field + strip) 0 < 2 ^ 32) × (0 < getD places (322 * field + (strip + 1)) 0) × (getD places (322 * field + (strip + 1)) 0 ≤ 2 ^ 32)
+
+    strip-at : (field strip : ℕ) → strip < getD counts field 0 → At field strip
+    strip-at field strip h =
+        elim (decLt field 4) [
+          | yes l ↦
+              let its : 0 + field ≡ field = omega arith in
+              let c = subst (λ (k : ℕ). ChartAt numbers rules directives exceptions k (getD fields field 0) places (getD counts field 0)) its (chart-at places field f (parts-all 322 places) l) in
+              let few = charts-long f .few field in
+              let ends = strip-ends (c .its-chart) strip h in (
+                omega (arith, c .places-at strip (omega arith), strip-begins (c .its-chart) strip h, size-small field),
+                omega (arith, c .places-at (strip + 1) (omega arith), ends .0),
+                omega (arith, c .places-at (strip + 1) (omega arith), ends .1, size-small field),
+              )
+          | no l ↦ absurd (omega (arith, List·getD-eq-default counts 0 {n = field} (omega (arith, charts-long f .long-counts))))
+        ]
+
+    pub charts-placed : Placed counts places
+    charts-placed =
+        record {
+          long = charts-long f .long-places;
+          begins = λ field strip h. strip-at field strip h .0;
+          ends-above = λ field strip h. strip-at field strip h .1;
+          ends = λ field strip h. strip-at field strip h .2;
+        }
+
+    -- a cell of the four fields
+    pub corner-placed : {strips : List ℕ} → InRange counts strips → CornerPlaced places strips
+    corner-placed {strips} i =
+        let first : 322 * 0 + getD strips 0 0 ≡ getD strips 0 0 = omega arith in
+        record { source = (at 0 (omega arith) .0, subst (λ (j : ℕ). getD places j 0 < 2 ^ 32) first (at 0 (omega arith) .1)); destination = at 1 (omega arith); protocol = at 2 (omega arith); port = at 3 (omega arith) }
+      where
+        within : {ns p : List ℕ} → InRange ns p → (k : ℕ) → k < length ns → getD p k 0 < getD ns k 0
+        within range-none k h = absurd (omega arith)
+        within (range-more l r) zero h = l
+        within (range-more l r) (suc k) h = within r k (omega arith)
+
+        at : (k : ℕ) → k < 4 → (getD strips k 0 < 322) × (getD places (322 * k + getD strips k 0) 0 < 2 ^ 32)
+        at k h =
+            let here = within i k (omega (arith, charts-long f .long-counts)) in
+            (omega (arith, here, charts-long f .few k), strip-at k (getD strips k 0) here .0)
+
+  -- its low corner
+  pub corner-at : {masks places counts strips : List ℕ} → FieldsCharted numbers rules directives exceptions 0 fields masks places counts → InRange counts strips
+      → cornerAt places strips ≡ cornerIn places 0 strips
+  corner-at {places} (charted-more c l w (charted-more c′ l′ w′ (charted-more c″ l″ w″ (charted-more c‴ l‴ w‴ charted-none)))) (range-more {x} h (range-more {x = y} i (range-more {x = z} j (range-more {x = u} k range-none)))) =
+      let first : x ≡ 322 * 0 + x = omega arith in
+      ap (λ (n : ℕ). getD places n 0 ∷ getD places (322 + y) 0 ∷ getD places (644 + z) 0 ∷ getD places (966 + u) 0 ∷ []) first
+
+module _ (places : List ℕ) {numbers : List ℕ} {rules directives exceptions : ℕ} where
+  -- a block of strips, stretched by its cuts and by the places
+  pub stretch-charted : {field : ℕ} {ns masks part counts : List ℕ} (f : FieldsCharted numbers rules directives exceptions field ns masks part counts)
+      → PartsFrom 322 places field part
+      → (b : Block)
+      → T (blockInForm counts b)
+      → stretched places field b ≡ stretch (cutsOf f) b
+  unfolding blockInForm stretch
+  stretch-charted charted-none there [] t = refl
+  stretch-charted charted-none there (s ∷ b) t = absurd t
+  stretch-charted (charted-more c long wide later) there [] t = absurd t
+  stretch-charted {field} (charted-more {count} {places = xs} {more-places = more} {counts} c long wide later) there (s ∷ b) t =
+      let w = block-in-form-iff count counts s b .0 t in
+      let at : (i : ℕ) → i ≤ count → getD places (322 * field + i) 0 ≡ place (fieldCut c) i =
+      λ i h. parts-here 322 places field xs more there i (omega (arith, c .few)) ∙ place-charted c i h in
+      let low = at (s .low) (omega (arith, w .0, w .1)) in
+      let high = at (s .high + 1) (omega (arith, w .1)) ∙ ap (place (fieldCut c)) (add-one (s .high)) in
+      λ i. record { low = low i; high = high i - 1 } ∷ stretch-charted later (parts-later 322 places field xs more there wide) b (w .2) i
