@@ -1,7 +1,7 @@
 -- What the directives ask for, by masks: an exception left turns its directive round. Assumes nothing.
 use mathlib.Core.Path.{_≡_, refl, sym, ap, _∙_}
 use mathlib.Core.Logic.{_⊎_, inl, inr, ⊎-elim}
-use mathlib.Core.Bool.{Bool, true, false, not, _&&_, _||_, cond}
+use mathlib.Core.Bool.{Bool, true, false, _&&_, _||_, cond}
 use mathlib.Core.List.{List, [], _∷_}
 use Prim.Native.Nat.{ℕ, zero, suc, _+_, _*_, _-_, _^_, _≤_, _<_}
 use native.Mathlib.Nat.{pow-succ'}
@@ -9,18 +9,18 @@ use native.Mathlib.Omega.{arith}
 use native.Mathlib.Decide.{ℕ-discrete, decLt, decLe}
 use borrow.Author.Tests.{eq-eqb, ne-eqb, lt-ltb, le-ltb, le-leb, lt-leb}
 use lib.Bits.{bitAnd, bitOr, bitXor}
-use lib.Dec.{eqb, leb, ltb}
+use lib.Dec.{eqb}
 use lib.ListN.{length, getD}
 use Rattle.meaning.specs.Blocks.{Block, holds}
 use Rattle.meaning.specs.Fields.{Packet}
 use Rattle.meaning.specs.Form.{Exception, naming, directivesFrom}
 use Rattle.meaning.specs.Policies.{Directive, excepted, asks}
-use Rattle.meaning.specs.Records.{someOf, Every, every-none, every-more}
+use Rattle.meaning.specs.Records.{someOf}
 use Rattle.meaning.specs.Rules.{Action, accept, deny, opposite, sameAction, Rule}
 use Rattle.meaning.proofs.RecordsEvery.{every-of}
 use Rattle.cells.specs.Cells.{exceptedFrom, exceptedBy}
 use Rattle.cells.specs.Masks.{mask}
-use Rattle.cells.specs.Words.{accepts, directiveDigit, exceptionAt}
+use Rattle.cells.specs.Words.{directiveDigit, exceptionAt}
 use Rattle.cells.proofs.Excepting.{excepted-none}
 use Rattle.cells.proofs.MaskLaws.{digit, lowest-digit, other-digits, mask-same, mask-and, mask-or, mask-xor, oneOf}
 

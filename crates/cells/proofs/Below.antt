@@ -1,19 +1,18 @@
 -- The cells below a field. Assumes nothing.
-use mathlib.Core.Path.{_≡_, refl, ap, sym, _∙_, subst}
+use mathlib.Core.Path.{_≡_, ap, sym, _∙_, subst}
 use mathlib.Core.List.{List, [], _∷_}
-use Prim.Native.Nat.{ℕ, _+_, _≤_, _<_}
+use Prim.Native.Nat.{ℕ, _+_, _<_}
 use native.Mathlib.Omega.{arith}
-use native.Mathlib.Decide.{decLt}
 use native.Mathlib.Numerals.{add-one}
 use lib.Bits.{bitAnd, bitOr, bitXor, and-zero-l, or-zero-l, xor-zero-l}
-use lib.ListN.{length, getD, drop, drop-of-length-le}
+use lib.ListN.{length, getD, drop-of-length-le}
 use lib.Seq.{drop-cons}
-use Rattle.meaning.specs.Fields.{Packet, range-none, range-more}
-use Rattle.meaning.specs.Labels.{Label, good}
-use Rattle.meaning.specs.Listings.{at, Agree}
+use Rattle.meaning.specs.Fields.{range-none, range-more}
+use Rattle.meaning.specs.Labels.{good}
+use Rattle.meaning.specs.Listings.{Agree}
 use Rattle.meaning.proofs.ListingUnique.{agree-at}
 use Rattle.cells.specs.declared.Left.{Left}
-use Rattle.cells.specs.Cells.{Chart, exceptedBy, exceptedFrom, asking, accepting, leftLabel, spot, leftAt, step, cellLabel, below, Same, Nothing}
+use Rattle.cells.specs.Cells.{Chart, exceptedBy, asking, accepting, leftLabel, spot, leftAt, step, cellLabel, below, Same, Nothing}
 use Rattle.cells.proofs.Excepting.{excepted-none}
 use Rattle.cells.proofs.Labels.{label-nothing}
 

@@ -1,5 +1,5 @@
 -- The first rule left, by the trailing zeros of a mask, and whether it accepts. Assumes nothing.
-use mathlib.Core.Path.{_≡_, refl, sym, ap, _∙_}
+use mathlib.Core.Path.{_≡_, refl, _∙_}
 use mathlib.Core.Bool.{Bool, true, false, _&&_, cond}
 use mathlib.Core.List.{List, [], _∷_}
 use Prim.Native.Nat.{ℕ, zero, suc, _+_, _*_, _≤_}
@@ -9,7 +9,7 @@ use borrow.Author.Tests.{eq-eqb, ne-eqb}
 use lib.Count.{trailingZeros}
 use lib.Dec.{eqb, eqb·suc-suc}
 use lib.ListN.{length}
-use Rattle.meaning.specs.Labels.{Label, judged}
+use Rattle.meaning.specs.Labels.{judged}
 use Rattle.meaning.specs.Records.{Found, nothing, found, firstFrom}
 use Rattle.meaning.specs.Rules.{Action, accept, deny, sameAction, Rule}
 use Rattle.cells.specs.Masks.{mask}

@@ -3,7 +3,7 @@ use mathlib.Core.Path.{_≡_}
 use Prim.Native.Nat.{ℕ, _+_}
 use native.Mathlib.Omega.{arith}
 use borrow.Author.Tests.{eq-eqb, ne-eqb, lt-ltb, le-ltb}
-use Rattle.meaning.specs.Labels.{Label, good, conflict, wrong, unasked, unmet-accept, unmet-deny, judged}
+use Rattle.meaning.specs.Labels.{good, conflict, wrong, unasked, unmet-accept, unmet-deny, judged}
 use Rattle.meaning.specs.Rules.{sameAction}
 use Rattle.cells.specs.Cells.{labelBy}
 

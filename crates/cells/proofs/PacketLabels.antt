@@ -1,10 +1,8 @@
 -- The label that is given by the rules, directives and exceptions that hold a packet is the packet's label. Assumes nothing.
-use mathlib.Core.Path.{_≡_, refl, sym, ap, _∙_}
-use mathlib.Core.Bool.{Bool, _&&_}
+use mathlib.Core.Path.{_≡_, ap, _∙_}
 use mathlib.Core.List.{List}
 use Prim.Native.Nat.{ℕ, _≤_}
 use lib.Bits.{bitAnd, bitOr, bitXor}
-use lib.Count.{trailingZeros}
 use lib.Dec.{ltb}
 use lib.ListN.{length, getD}
 use Rattle.meaning.specs.Blocks.{Block, holds}

@@ -1,7 +1,7 @@
 -- The label of a cell of a chart is the label of every packet in the cell. Assumes nothing.
 use mathlib.Core.Path.{_≡_, refl, sym, ap, _∙_, subst}
-use mathlib.Core.List.{List, [], _∷_, _++_}
-use Prim.Native.Nat.{ℕ, _+_, _*_, _≤_, _<_}
+use mathlib.Core.List.{List, _++_}
+use Prim.Native.Nat.{ℕ, _+_, _≤_}
 use native.Mathlib.Omega.{arith}
 use lib.ListN.{length, getD, length-map, List·getD-append}
 use lib.Seq.{getD-append-add}
@@ -10,11 +10,10 @@ use Rattle.meaning.specs.Fields as meant
 use Rattle.meaning.specs.Form as form
 use Rattle.meaning.specs.Labels.{label}
 use Rattle.meaning.specs.Rules as rules
-use Rattle.meaning.specs.Strips.{Cut, InCell, ByCells}
+use Rattle.meaning.specs.Strips.{Cut, ByCells}
 use Rattle.sets.specs.declared.Policy.{Policy}
 use Rattle.sets.specs.declared.Rules.{Rules}
 use Rattle.sets.specs.Vocabulary.{policySetOf}
-use Rattle.cells.specs.declared.Left.{Left}
 use Rattle.cells.specs.Cells.{chart, leftLabel, cellLabel}
 use Rattle.cells.specs.Words.{WordsOf}
 use Rattle.cells.proofs.MaskLaws.{mask-map}

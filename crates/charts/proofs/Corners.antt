@@ -1,19 +1,14 @@
 -- The places of a chart give the low corner of a cell, and the numbers of a block of strips. Assumes nothing.
 use mathlib.Core.Path.{_≡_, refl, sym, ap, _∙_}
-use mathlib.Core.List.{List, [], _∷_, _++_}
-use Prim.Native.Nat.{ℕ, zero, suc, _+_, _*_, _-_, _^_, _≤_, _<_}
+use mathlib.Core.List.{List, [], _∷_}
+use Prim.Native.Nat.{ℕ, zero, suc, _+_, _*_, _≤_, _<_}
 use native.Mathlib.Omega.{arith}
 use native.Mathlib.Decide.{decLt}
 use native.Mathlib.Numerals.{add-one}
-use lib.Dec.{T}
-use lib.ListN.{length, getD, take, length-append, List·getD-append, List·getD-eq-default}
-use lib.Seq.{getD-take, getD-append-add, getD-at}
-use Rattle.meaning.specs.Blocks.{Span, Block}
+use lib.ListN.{length, getD, List·getD-append, List·getD-eq-default}
+use lib.Seq.{getD-take, getD-at}
 use Rattle.meaning.specs.Fields.{Packet, InRange, range-none, range-more}
-use Rattle.meaning.specs.Form.{blockInForm}
-use Rattle.meaning.specs.Records.{Every, every-none, every-more}
-use Rattle.meaning.specs.Strips.{Cut, place, corner, stretch}
-use Rattle.meaning.proofs.FormLaws.{block-in-form-iff}
+use Rattle.meaning.specs.Strips.{place, corner}
 use Rattle.meaning.proofs.StripCells.{place-size}
 use Rattle.strips.specs.Charts.{ChartedField}
 use Rattle.charts.specs.Charted.{FieldsCharted, charted-none, charted-more}

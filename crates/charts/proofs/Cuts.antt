@@ -1,11 +1,10 @@
 -- The cuts of charted fields, and what is left at a strip: what has a span there that holds every number of the strip. Assumes nothing.
 use mathlib.Core.Path.{_≡_, refl, sym, ap, _∙_, subst}
-use mathlib.Core.Bool.{Bool, _&&_}
+use mathlib.Core.Bool.{Bool}
 use mathlib.Core.List.{List, [], _∷_, _++_, map, append-assoc, append-nil}
 use Prim.Native.Nat.{ℕ, suc, _+_, _*_, _≤_, _<_}
 use native.Mathlib.Omega.{arith}
-use lib.Bits.{bitAnd}
-use lib.ListN.{length, getD, take, length-append, List·getD-append}
+use lib.ListN.{length, getD, length-append}
 use lib.Seq.{getD-take}
 use Rattle.meaning.specs.Blocks.{Span, Block, within}
 use Rattle.meaning.specs.Records.{Every}
@@ -16,7 +15,7 @@ use Rattle.cells.proofs.MaskLaws.{mask-map}
 use Rattle.strips.specs.Charts.{holding, masksAt, ChartedField}
 use Rattle.strips.specs.Spans.{InFront, spansIn}
 use Rattle.strips.proofs.BlockSpans.{spanOf, spans-between}
-use Rattle.strips.proofs.MaskLists.{length-masks, rules-at, directives-at, exceptions-at}
+use Rattle.strips.proofs.MaskLists.{rules-at, directives-at, exceptions-at}
 use Rattle.strips.proofs.PlacesCut.{placesCut, holding-constant}
 use Rattle.strips.proofs.SpanLists.{spans-parts}
 use Rattle.charts.specs.Charted.{FieldsCharted, charted-none, charted-more}

@@ -2,21 +2,20 @@
 use mathlib.Core.Path.{_≡_, refl, sym, ap, _∙_, subst}
 use mathlib.Core.Bool.{Bool, true, false, _&&_}
 use mathlib.Core.List.{List, [], _∷_, _++_, append-assoc, append-nil}
-use Prim.Native.Nat.{ℕ, suc, _+_, _*_, _-_, _^_, _%_, _≤_, _<_}
+use Prim.Native.Nat.{ℕ, suc, _+_, _*_, _-_, _^_, _≤_, _<_}
 use native.Mathlib.Nat.{mod-eq-of-lt}
 use native.Mathlib.Omega.{arith}
 use native.Mathlib.Numerals.{add-one}
 use lib.Bits.{bitAnd, and-comm, and-mask}
-use lib.ListN.{length, getD, take, drop, drop-of-length-le, length-append, List·getD-append}
+use lib.ListN.{length, getD, drop, drop-of-length-le}
 use lib.Pow.{pow-mono}
-use lib.Seq.{drop-cons, getD-append-add}
-use Rattle.meaning.specs.Blocks.{Span, Block, within, holds}
+use lib.Seq.{drop-cons}
+use Rattle.meaning.specs.Blocks.{Block, within, holds}
 use Rattle.meaning.specs.Fields.{Packet}
 use Rattle.meaning.specs.Records.{Every}
-use Rattle.meaning.specs.Strips as strips
 use Rattle.meaning.specs.Strips.{place, InCell, cell-none, cell-more}
 use Rattle.cells.specs.declared.Left.{Left}
-use Rattle.cells.specs.Cells.{Chart, chart, spot, leftAt, leftIn}
+use Rattle.cells.specs.Cells.{chart, spot, leftAt, leftIn}
 use Rattle.cells.specs.Masks.{mask}
 use Rattle.cells.proofs.MaskLaws.{mask-same, mask-and, mask-small}
 use Rattle.strips.specs.Charts.{ChartedField}

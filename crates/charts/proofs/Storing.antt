@@ -2,10 +2,9 @@
 use mathlib.Core.Path.{_≡_, refl, sym, ap, _∙_}
 use mathlib.Core.List.{List, [], _∷_, _++_, append-assoc}
 use Prim.Native.Nat.{ℕ, suc, _+_, _*_, _≤_}
-use native.Mathlib.Nat.{add-zero, add-suc, suc-add}
 use native.Mathlib.Omega.{arith}
 use lib.ListN.{length, take, drop, set, length-append}
-use lib.Seq.{sets, sets-eq, take-at, length-take-le}
+use lib.Seq.{sets, sets-eq, take-at}
 use Rattle.meaning.specs.Blocks.{Block}
 use Rattle.meaning.specs.Buffers.{bounds}
 use Rattle.cells.proofs.Stores.{sets-append}

@@ -1,9 +1,9 @@
 -- From the chart of sets in form to the verdict and the listing over all packets. Assumes nothing.
 use mathlib.Core.Path.{_≡_, refl, sym, ap, _∙_, subst}
 use mathlib.Core.List.{List, [], _∷_, map}
-use Prim.Native.Nat.{ℕ, _+_, _*_, _≤_, _<_}
+use Prim.Native.Nat.{ℕ, _≤_, _<_}
 use native.Mathlib.Omega.{arith}
-use lib.ListN.{length, getD, length-map, length-append}
+use lib.ListN.{length, length-map, length-append}
 use Rattle.meaning.specs.Buffers as buffers
 use Rattle.meaning.specs.Fields.{Packet, InRange, fields}
 use Rattle.meaning.specs.Form as form
@@ -14,8 +14,8 @@ use Rattle.meaning.specs.Listings as listings
 use Rattle.meaning.specs.Policies.{lowestAsking}
 use Rattle.meaning.specs.Records.{Every, every-none, every-more}
 use Rattle.meaning.specs.Strips as strips
-use Rattle.meaning.specs.Strips.{Cut, sizes, corner, ByCells, lift}
-use Rattle.meaning.specs.Verdicts.{Verdict, verdictAt, conforms}
+use Rattle.meaning.specs.Strips.{sizes, corner, ByCells, lift}
+use Rattle.meaning.specs.Verdicts.{verdictAt, conforms}
 use Rattle.meaning.proofs.LabelCases.{label-numbered}
 use Rattle.meaning.proofs.LabelKinds.{Numbered}
 use Rattle.meaning.proofs.ListingForm.{InForm, listing-in-form}
@@ -29,7 +29,7 @@ use Rattle.sets.specs.declared.Policy.{Policy}
 use Rattle.sets.specs.declared.Rules.{Rules}
 use Rattle.sets.specs.Vocabulary.{ruleSetOf, policySetOf}
 use Rattle.cells.specs.Cells.{chart, Formed, cellLabel}
-use Rattle.lister.specs.Rows.{rowOf, rowsFrom, stretched}
+use Rattle.lister.specs.Rows.{rowOf, rowsFrom}
 use Rattle.lister.specs.Runs.{Placed, blocksBelow}
 use Rattle.lister.proofs.Few.{blocks-few}
 use Rattle.lister.proofs.Listing.{blocks-listed}

@@ -1,23 +1,18 @@
 -- Places of charts as the walks use them: of the strips of a cell, and of a block of strips. Assumes nothing.
-use mathlib.Core.Path.{_≡_, refl, sym, ap, _∙_, subst}
-use mathlib.Core.List.{List, [], _∷_, _++_, map}
+use mathlib.Core.Path.{_≡_, refl, ap, _∙_, subst}
+use mathlib.Core.List.{List, [], _∷_}
 use Prim.Native.Nat.{ℕ, zero, suc, _+_, _*_, _-_, _^_, _≤_, _<_}
 use native.Mathlib.Decide.{decLt}
 use native.Mathlib.Numerals.{add-one}
 use native.Mathlib.Omega.{arith}
 use lib.Dec.{T}
 use lib.ListN.{length, getD, List·getD-eq-default}
-use Rattle.meaning.specs.Blocks.{Span, Block}
-use Rattle.meaning.specs.Buffers as buffers
-use Rattle.meaning.specs.Fields.{Packet, InRange, range-none, range-more, fields}
+use Rattle.meaning.specs.Blocks.{Block}
+use Rattle.meaning.specs.Fields.{InRange, range-none, range-more, fields}
 use Rattle.meaning.specs.Form.{blockInForm}
-use Rattle.meaning.specs.Labels.{Label, kind, rule}
-use Rattle.meaning.specs.Listings.{Listed}
-use Rattle.meaning.specs.Records.{Every, every-none, every-more}
-use Rattle.meaning.specs.Strips.{place, corner, stretch, lift}
+use Rattle.meaning.specs.Strips.{place, stretch}
 use Rattle.meaning.proofs.FormLaws.{block-in-form-iff}
-use Rattle.meaning.proofs.ListingForm.{InForm}
-use Rattle.lister.specs.Rows.{spanAt, stretched, rowOf}
+use Rattle.lister.specs.Rows.{stretched}
 use Rattle.lister.specs.Runs.{Placed}
 use Rattle.charts.specs.Charted.{FieldsCharted, charted-none, charted-more}
 use Rattle.charts.proofs.Corners.{place-charted, strip-begins, strip-ends, cornerIn}

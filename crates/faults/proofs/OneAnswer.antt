@@ -14,14 +14,13 @@ use Rattle.meaning.specs.Verdicts.{Verdict}
 use Rattle.meaning.proofs.Demands.{fault-listing-is-unique}
 use Rattle.meaning.proofs.VerdictUnique.{verdict-is-unique}
 use Rattle.contracts.specs.Answers.{OneAnswer, OneOutcome}
-use Rattle.blocks.specs.Vocabulary.{packetOf}
 use Rattle.blocks.proofs.OneAnswer.{one-packet}
 use Rattle.sets.specs.declared.Policy.{Policy}
 use Rattle.sets.specs.declared.Rules.{Rules}
-use Rattle.sets.specs.Vocabulary.{ruleSetOf, policySetOf, labelOf}
+use Rattle.sets.specs.Vocabulary.{ruleSetOf, policySetOf}
 use Rattle.sets.proofs.OneAnswer.{one-refusal}
 use Rattle.labels.proofs.OneAnswer.{one-label}
-use Rattle.faults.specs.Answers.{refused, labelAt, verdictOf, JudgedAs, ListingTold, ListedAs}
+use Rattle.faults.specs.Answers.{refused, labelAt, verdictOf, JudgedAs, ListedAs}
 use Rattle.faults.specs.declared.Judged.{Judged}
 use Rattle.faults.specs.declared.Listed.{Listed}
 use Rattle.faults.proofs.listing.Reads as listing

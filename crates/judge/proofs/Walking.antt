@@ -6,7 +6,7 @@ use native.Mathlib.Omega.{arith}
 use native.Mathlib.Numerals.{add-one}
 use lib.ListN.{length, getD, take, set}
 use lib.Seq.{take-all, take-suc-set}
-use Rattle.meaning.specs.Labels.{Label, good, kind, rule}
+use Rattle.meaning.specs.Labels.{Label, good}
 use Rattle.meaning.proofs.VerdictRanks.{rank, good-ranks}
 use Rattle.cells.specs.declared.Left.{Left}
 use Rattle.cells.specs.Cells.{Chart, Formed, leftLabel, step, below, Nothing}

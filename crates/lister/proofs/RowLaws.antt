@@ -3,13 +3,13 @@ use mathlib.Core.Path.{_≡_, refl, ap, sym, _∙_}
 use mathlib.Core.Bool.{Bool, true, false, cond}
 use mathlib.Core.List.{List, [], _∷_, _++_, map, append-assoc}
 use Prim.Native.Nat.{ℕ, suc, _+_, _*_, _-_, _/_, _≤_, _<_}
-use native.Mathlib.Nat.{add-zero, add-suc, suc-add}
+use native.Mathlib.Nat.{add-zero}
 use native.Mathlib.Omega.{arith}
 use native.Mathlib.Numerals.{add-one}
 use borrow.Author.Tests.{lt-ltb, le-ltb}
 use lib.Dec.{ltb}
 use lib.ListN.{length, getD, take, drop, set, length-set, length-drop}
-use lib.Seq.{sets, length-sets, take-all, take-suc, take-suc-set, drop-set-add, length-take-le}
+use lib.Seq.{sets, length-sets, take-all, take-suc, take-suc-set, drop-set-add}
 use Rattle.meaning.specs.Blocks.{Span}
 use Rattle.meaning.specs.Buffers as buffers
 use Rattle.meaning.specs.Labels.{Label, kind, rule}

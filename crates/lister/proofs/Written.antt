@@ -1,7 +1,7 @@
 -- Rows written one after the other while there is room leave the buffer as document 01 says. Assumes nothing.
 use mathlib.Core.Path.{_≡_, refl, sym, ap, _∙_, subst}
 use mathlib.Core.List.{List, [], _∷_, _++_, map}
-use Prim.Native.Nat.{ℕ, suc, _+_, _*_, _-_, _/_, _≤_, _<_}
+use Prim.Native.Nat.{ℕ, suc, _+_, _*_, _-_, _/_, _≤_}
 use native.Mathlib.Omega.{arith}
 use native.Mathlib.Decide.{decLt}
 use lib.ListN.{length, take, drop}
@@ -14,7 +14,7 @@ use Rattle.meaning.specs.Records.{Every, every-none, every-more}
 use Rattle.meaning.proofs.BufferWritten.{row-length, rows-fit}
 use Rattle.meaning.proofs.ListingForm.{InForm}
 use Rattle.cells.proofs.Stores.{sets-append}
-use Rattle.lister.specs.Rows.{rowAt, rowsFrom}
+use Rattle.lister.specs.Rows.{rowsFrom}
 use Rattle.lister.proofs.RowLaws.{row-fits, row-left-out}
 
 -- past the room nothing is written

@@ -11,7 +11,10 @@
 -- In the other crates: `«a_b»` is the name a_b, `replicate n x` is a list of n times x, and a contract in `src/` stands between ⌜ and ⌝,
 -- where r is the answer. There `now s` are the bytes of a lent slice s, `s .entry` is what it is when the call begins, and `.ptr` is its
 -- address: a block of memory, and the place in it. `code "x"` is the number of a character. `a - b` is 0 where b is larger, `%` is the
--- remainder, `^` a power, `min` the smaller. What stands after `module _` belongs to every definition below it.
+-- remainder, `/` the quotient without it, `^` a power, `min` the smaller, and `10_617` is 10,617. `s .exit` is what a lent slice is when
+-- the call ends; `set xs i x` is xs with x for element i, `sets xs i ys` with the elements of ys from i on. `bitAnd`, `bitOr` and `bitXor`
+-- go by binary digits: those that both numbers have set, that one has, that just one has; `trailingZeros 64 n` counts the digits that are
+-- 0 below the lowest that is set, of 64. What stands after `module _` belongs to every definition below it.
 pub mod Fields
 pub mod Blocks
 pub mod Records
