@@ -74,9 +74,10 @@ fn best_below(
     let mut strip: usize = 0;
     while strip < end {
         let x = cells::left_at(field, strip, left, words);
-        let here = with_strip(strips, field, strip);
+        let at = strip;
         strip += 1;
         if cells::same_left(before, x) {} else {
+            let here = with_strip(strips, field, at);
             so_far = best_below(field + 1, x, here, so_far, words, counts);
             before = x;
         }

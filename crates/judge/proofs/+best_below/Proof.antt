@@ -41,10 +41,10 @@ claims t = (
   rank-of-reads.Learnt,
   left-at-reads.Asked,
   left-at-reads.Learnt,
-  with-strip-reads.Asked,
-  with-strip-reads.Learnt,
   same-left-reads.Asked,
   same-left-reads.Learnt,
+  with-strip-reads.Asked,
+  with-strip-reads.Learnt,
   best-below-below t,
   best-below.Post,
 )
@@ -93,9 +93,6 @@ best-below-loop-holds t c =
 best-below-left-at-requires : (t : ℕ) → best-below-lts.Need-left-at-requires (claims t) (best-below-at t) best-below.Post best-below-Inv-loop best-below-μ-loop
 best-below-left-at-requires t c κs = search needs
 
-best-below-with-strip-requires : (t : ℕ) → best-below-lts.Need-with-strip-requires (claims t) (best-below-at t) best-below.Post best-below-Inv-loop best-below-μ-loop
-best-below-with-strip-requires t c κs = search needs
-
 best-below-add-strip : (t : ℕ) → best-below-lts.Need-add-strip (claims t) (best-below-at t) best-below.Post best-below-Inv-loop best-below-μ-loop
 best-below-add-strip t c = search needs
 
@@ -107,7 +104,10 @@ best-below-loop-less t c = search needs
 
 best-below-loop-again : (t : ℕ) → best-below-lts.Need-loop-again (claims t) (best-below-at t) best-below.Post best-below-Inv-loop best-below-μ-loop
 best-below-loop-again t c =
-    walked-skip _ _ _ _ _ _ _ _ _ (c .before .before .before .before .before .loop .inv) _ (c .before .before .before .before .loop-test .taken) (c .before .before .before .left-at .ensures) (told-true (c .if5 .taken) (c .before .same-left .ensures))
+    walked-skip _ _ _ _ _ _ _ _ _ (c .before .before .before .before .loop .inv) _ (c .before .before .before .loop-test .taken) (c .before .before .left-at .ensures) (told-true (c .if5 .taken) (c .before .same-left .ensures))
+
+best-below-with-strip-requires : (t : ℕ) → best-below-lts.Need-with-strip-requires (claims t) (best-below-at t) best-below.Post best-below-Inv-loop best-below-μ-loop
+best-below-with-strip-requires t c κs = search needs
 
 best-below-add-best-below : (t : ℕ) → best-below-lts.Need-add-best-below (claims t) (best-below-at t) best-below.Post best-below-Inv-loop best-below-μ-loop
 best-below-add-best-below t c = search needs
@@ -122,7 +122,7 @@ best-below-loop-less-2 t c = search needs
 
 best-below-loop-again-2 : (t : ℕ) → best-below-lts.Need-loop-again-2 (claims t) (best-below-at t) best-below.Post best-below-Inv-loop best-below-μ-loop
 best-below-loop-again-2 t c =
-    walked-more _ _ _ _ _ _ _ _ _ (c .before .before .before .before .before .before .loop .inv) _ _ _ (c .before .before .before .before .before .loop-test .taken) (c .before .before .before .before .left-at .ensures) (c .before .before .before .with-strip .ensures) (c .best-below .ensures)
+    walked-more _ _ _ _ _ _ _ _ _ (c .before .before .before .before .before .before .loop .inv) _ _ _ (c .before .before .before .before .before .loop-test .taken) (c .before .before .before .before .left-at .ensures) (c .before .with-strip .ensures) (c .best-below .ensures)
 
 best-below-returns-5 : (t : ℕ) → best-below-lts.Need-returns-5 (claims t) (best-below-at t) best-below.Post best-below-Inv-loop best-below-μ-loop
 best-below-returns-5 t c = walked-end _ _ _ _ _ _ _ _ _ (c .before .loop .inv) (c .loop-test .left)
@@ -144,11 +144,11 @@ pub +best-below-spec : {M : Type 1} → statement M
     (best-below-shared-slice-read-end t)
     (best-below-loop-holds t)
     (best-below-left-at-requires t)
-    (best-below-with-strip-requires t)
     (best-below-add-strip t)
     (best-below-same-left-requires t)
     (best-below-loop-less t)
     (best-below-loop-again t)
+    (best-below-with-strip-requires t)
     (best-below-add-best-below t)
     (best-below-best-below-requires t)
     (best-below-loop-less-2 t)
