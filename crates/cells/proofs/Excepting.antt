@@ -1,11 +1,11 @@
--- Going from exception to exception: digits that are not set are passed at once. Assumes nothing.
+-- Going from exception to exception: the first is taken, and cleared. Assumes nothing.
 use mathlib.Core.Path.{_≡_, refl, sym, _∙_, ap, subst}
 use mathlib.Core.List.{List}
-use Prim.Native.Nat.{ℕ, zero, suc, _+_, _-_, _/_, _%_, _^_, _≤_, _<_}
-use native.Mathlib.Nat.{pow-suc, pow-succ', div-div-eq-div-mul, div-one}
+use Prim.Native.Nat.{ℕ, zero, suc, _+_, _-_, _*_, _/_, _%_, _^_, _<_}
+use native.Mathlib.Nat.{pow-suc}
 use native.Mathlib.Omega.{arith}
 use native.Mathlib.Decide.{ℕ-discrete}
-use lib.Bits.{bitOr}
+use lib.Bits.{bitAnd, bitOr, and-step, and-self, and-le-r}
 use lib.Count.{trailingZeros, under}
 use lib.ListN.{getD}
 use Rattle.cells.specs.Cells.{exceptedFrom, exceptedBy}
@@ -16,79 +16,85 @@ unfolding exceptedFrom
 excepted-none zero t words x = refl
 excepted-none (suc m) t words x = excepted-none m (t + 1) words x
 
--- z digits are passed, and the next one is set
-pub record Gap (m t z : ℕ) (words : List ℕ) (e x : ℕ) : Type 0 where
-  pub within : z < m
-  pub low : e / 2 ^ z / 2 < 2 ^ (m - (z + 1))
-  pub passed : exceptedFrom m t words e x ≡ exceptedFrom (m - (z + 1)) (t + z + 1) words (e / 2 ^ z / 2) (bitOr x (getD words (2 + (t + z)) 0))
+-- e without its lowest digit that is set
+abbrev cleared : ℕ → ℕ
+cleared e = bitAnd e (e - 1)
 
-gap-here : (m t : ℕ) (words : List ℕ) (e x : ℕ) → e < 2 ^ suc m → e % 2 ≡ 1 → Gap (suc m) t 0 words e x
+-- an odd number loses its 1, an even one a digit of its half
+cleared-odd : (e : ℕ) → e % 2 ≡ 1 → cleared e ≡ e / 2 * 2
+cleared-odd e o =
+    let half : (e - 1) / 2 ≡ e / 2 = omega arith in
+    let low : (e - 1) % 2 ≡ 0 = omega arith in
+    omega (arith, and-step e (e - 1), ap (bitAnd (e / 2)) half, and-self (e / 2))
+
+cleared-even : (e : ℕ) → ¬ (e ≡ 0) → e % 2 ≡ 0 → cleared e ≡ cleared (e / 2) * 2
+cleared-even e ne o =
+    let half : (e - 1) / 2 ≡ e / 2 - 1 = omega arith in
+    omega (arith, and-step e (e - 1), ap (bitAnd (e / 2)) half)
+
+-- the first exception is taken: it is within m digits, and the others are left
+pub record Taken (m t first : ℕ) (words : List ℕ) (e x : ℕ) : Type 0 where
+  pub within : first < m
+  pub others : exceptedFrom m t words e x ≡ exceptedFrom m t words (cleared e) (bitOr x (getD words (2 + (t + first)) 0))
+
+taken-here : (m t : ℕ) (words : List ℕ) (e x : ℕ) → e % 2 ≡ 1 → Taken (suc m) t 0 words e x
 unfolding exceptedFrom
-gap-here m t words e x l o =
-    let one : e / 2 ^ 0 ≡ e = div-one e in
-    let left : suc m - (0 + 1) ≡ m = omega arith in
+taken-here m t words e x o =
     let place : t + 0 ≡ t = omega arith in
-    record {
-      within = omega arith;
-      low = rw one (rw left (omega (arith, pow-suc 2 m)));
-      passed = rw one (rw left (rw place (rw o refl)));
-    }
+    let c = cleared-odd e o in
+    let low : cleared e % 2 ≡ 0 = omega arith in
+    let half : cleared e / 2 ≡ e / 2 = omega arith in
+    record { within = omega arith; others = rw o (rw low (rw half (rw place refl))) }
 
-gap-on : (m t z : ℕ) (words : List ℕ) (e x : ℕ) → e % 2 ≡ 0 → Gap m (t + 1) z words (e / 2) x → Gap (suc m) t (suc z) words e x
+taken-later : (m t first : ℕ) (words : List ℕ) (e x : ℕ) → ¬ (e ≡ 0) → e % 2 ≡ 0 → Taken m (t + 1) first words (e / 2) x → Taken (suc m) t (suc first) words e x
 unfolding exceptedFrom
-gap-on m t z words e x o g =
-    let half : e / 2 ^ suc z ≡ e / 2 / 2 ^ z = ap (λ (n : ℕ). e / n) (pow-succ' 2 z) ∙ sym (div-div-eq-div-mul e 2 (2 ^ z)) in
-    let left : suc m - (suc z + 1) ≡ m - (z + 1) = omega arith in
-    let place : t + suc z ≡ t + 1 + z = omega arith in
-    record {
-      within = omega (arith, g .within);
-      low = rw half (rw left (g .low));
-      passed = rw half (rw left (rw place (rw o (g .passed))));
-    }
+taken-later m t first words e x ne o z =
+    let place : t + suc first ≡ t + 1 + first = omega arith in
+    let c = cleared-even e ne o in
+    let low : cleared e % 2 ≡ 0 = omega arith in
+    let half : cleared e / 2 ≡ cleared (e / 2) = omega arith in
+    record { within = omega (arith, z .within); others = rw o (rw low (rw half (rw place (z .others)))) }
 
--- the count of trailing zeros, of more digits than are looked at, is such a number
-pub gap : (k m t : ℕ) (words : List ℕ) (e x : ℕ) → m ≤ k → e < 2 ^ m → ¬ (e ≡ 0) → Gap m t (trailingZeros k e) words e x
+-- trailing zeros tell it
+taken : (m t : ℕ) (words : List ℕ) (e x : ℕ) → e < 2 ^ m → ¬ (e ≡ 0) → Taken m t (trailingZeros m e) words e x
 unfolding trailingZeros
-gap k zero t words e x h l ne = absurd (ne (omega arith))
-gap zero (suc m) t words e x h l ne = absurd (omega arith)
-gap (suc k) (suc m) t words e x h l ne =
+taken zero t words e x l ne = absurd (ne (omega arith))
+taken (suc m) t words e x l ne =
     elim (ℕ-discrete (e % 2) 1) [
-      | yes o ↦ subst (λ (d : ℕ). Gap (suc m) t (under d (trailingZeros k (e / 2))) words e x) (sym o) (gap-here m t words e x l o)
+      | yes o ↦ subst (λ (d : ℕ). Taken (suc m) t (under d (trailingZeros m (e / 2))) words e x) (sym o) (taken-here m t words e x o)
       | no o ↦
           let even : e % 2 ≡ 0 = omega arith in
-          subst (λ (d : ℕ). Gap (suc m) t (under d (trailingZeros k (e / 2))) words e x) (sym even)
-          (gap-on m t (trailingZeros k (e / 2)) words e x even
-          (gap k m (t + 1) words (e / 2) x (omega arith) (omega (arith, pow-suc 2 m)) (λ z. ne (omega arith))))
+          subst (λ (d : ℕ). Taken (suc m) t (under d (trailingZeros m (e / 2))) words e x) (sym even)
+          (taken-later m t (trailingZeros m (e / 2)) words e x ne even
+          (taken m (t + 1) words (e / 2) x (omega (arith, pow-suc 2 m)) (λ z. ne (omega arith))))
     ]
 
--- before the rest of the exceptions, of which so many are passed
-pub record Excepting (words : List ℕ) (e x rest passed : ℕ) : Type 0 where
-  pub few : passed ≤ 64
-  pub low : rest < 2 ^ (64 - passed)
-  pub so-far : exceptedFrom (64 - passed) passed words rest x ≡ exceptedBy words e
+-- before the rest of the exceptions
+pub record Excepting (words : List ℕ) (e x rest : ℕ) : Type 0 where
+  pub low : rest < 2 ^ 64
+  pub so-far : exceptedFrom 64 0 words rest x ≡ exceptedBy words e
 
 module _ (words : List ℕ) (e : ℕ) where
-  pub excepting-start : e < 2 ^ 64 → Excepting words e 0 e 0
+  pub excepting-start : e < 2 ^ 64 → Excepting words e 0 e
   unfolding exceptedBy
-  excepting-start h = record { few = omega arith; low = h; so-far = refl }
+  excepting-start h = record { low = h; so-far = refl }
 
-  module _ (x rest passed : ℕ) (z : Excepting words e x rest passed) where
-    pub excepting-gap : (t : ℕ) → t ≡ trailingZeros 64 rest → ¬ (rest ≡ 0) → Gap (64 - passed) passed t words rest x
-    excepting-gap t et ne = rw et (gap 64 (64 - passed) passed words rest x (omega arith) (z .low) ne)
+  module _ (x rest : ℕ) (z : Excepting words e x rest) where
+    module _ (first : ℕ) (is-first : first ≡ trailingZeros 64 rest) (ne : ¬ (rest ≡ 0)) where
+      pub excepting-within : first < 64
+      excepting-within = omega (arith, is-first, taken 64 0 words rest x (z .low) ne .within)
 
-    pub excepting-more : (t : ℕ) → t ≡ trailingZeros 64 rest → ¬ (rest ≡ 0)
-        → Excepting words e (bitOr x (getD words (2 + (passed + t)) 0)) (rest / 2 ^ t / 2) (passed + t + 1)
-    excepting-more t et ne =
-        let g = excepting-gap t et ne in
-        let left : 64 - passed - (t + 1) ≡ 64 - (passed + t + 1) = omega arith in
-        record {
-          few = omega (arith, g .within);
-          low = subst (λ (n : ℕ). rest / 2 ^ t / 2 < 2 ^ n) left (g .low);
-          so-far =
-              subst (λ (n : ℕ). exceptedFrom n (passed + t + 1) words (rest / 2 ^ t / 2) (bitOr x (getD words (2 + (passed + t)) 0)) ≡ exceptedBy words e) left
-              (sym (g .passed) ∙ z .so-far);
-        }
+      -- fewer are left
+      pub excepting-less : bitAnd rest (rest - 1) < rest
+      excepting-less = omega (arith, and-le-r rest (rest - 1))
+
+      pub excepting-more : Excepting words e (bitOr x (getD words (2 + first) 0)) (bitAnd rest (rest - 1))
+      excepting-more =
+          let at : 0 + trailingZeros 64 rest ≡ first = omega arith in
+          record {
+            low = omega (arith, excepting-less, z .low);
+            so-far = ap (λ (j : ℕ). exceptedFrom 64 0 words (cleared rest) (bitOr x (getD words (2 + j) 0))) (sym at) ∙ sym (taken 64 0 words rest x (z .low) ne .others) ∙ z .so-far;
+          }
 
     pub excepting-end : rest ≡ 0 → x ≡ exceptedBy words e
-    excepting-end n =
-        sym (excepted-none (64 - passed) passed words x) ∙ ap (λ (r : ℕ). exceptedFrom (64 - passed) passed words r x) (sym n) ∙ z .so-far
+    excepting-end n = sym (excepted-none 64 0 words x) ∙ ap (λ (r : ℕ). exceptedFrom 64 0 words r x) (sym n) ∙ z .so-far

@@ -124,13 +124,10 @@ fn excepted_by(exceptions: u64, words: &[u64]) -> u64
 {
     let mut directives: u64 = 0;
     let mut rest = exceptions;
-    let mut passed: usize = 0;
     while rest != 0 {
-        let gap = wide(u64::trailing_zeros(rest));
-        let at = passed + gap;
-        directives = directives | words[2 + at];
-        rest = (rest >> gap) / 2;
-        passed = at + 1;
+        let first = wide(u64::trailing_zeros(rest));
+        directives = directives | words[2 + first];
+        rest = rest & (rest - 1);
     }
     directives
 }

@@ -1,16 +1,15 @@
 -- It goes from exception to exception.
-use Prim.Native.Nat.{_-_}
 use native.Mathlib.Omega.{arith}
 use borrow.Author.Needs.{needs}
-use Rattle.cells.proofs.Excepting.{Excepting, excepting-end, excepting-gap, excepting-more, excepting-start}
+use Rattle.cells.proofs.Excepting.{Excepting, excepting-end, excepting-less, excepting-more, excepting-start, excepting-within}
 use Rattle.cells.proofs.excepted_by.Statement.{statement}
 use Rattle.cells.proofs.excepted_by.Tie as tie
 
 abbrev Inv-loop : tie.InvT-loop
-Inv-loop exceptions words directives₀ rest₀ passed₀ directives rest passed = Excepting words exceptions directives rest passed
+Inv-loop exceptions words directives₀ rest₀ directives rest = Excepting words exceptions directives rest
 
 abbrev μ-loop : tie.MeasureT-loop
-μ-loop exceptions words directives₀ rest₀ passed₀ directives rest passed = 64 - passed
+μ-loop exceptions words directives₀ rest₀ directives rest = rest
 
 loop-holds : tie.Need-loop-holds Inv-loop μ-loop
 loop-holds c = excepting-start _ _ (c .before .fits .exceptions .fits)
@@ -18,32 +17,26 @@ loop-holds c = excepting-start _ _ (c .before .fits .exceptions .fits)
 wide-requires : tie.Need-wide-requires Inv-loop μ-loop
 wide-requires c κs = search needs
 
-add-at : tie.Need-add-at Inv-loop μ-loop
-add-at c = omega (arith, excepting-gap _ _ _ _ _ (c .before .before .loop .inv) _ (c .wide .ensures) (c .before .loop-test .taken) .within)
-
 add-directives : tie.Need-add-directives Inv-loop μ-loop
-add-directives c = omega (arith, excepting-gap _ _ _ _ _ (c .before .before .loop .inv) _ (c .wide .ensures) (c .before .loop-test .taken) .within)
+add-directives c = omega (arith, excepting-within _ _ _ _ (c .before .before .loop .inv) _ (c .wide .ensures) (c .before .loop-test .taken))
 
 mul-directives : tie.Need-mul-directives Inv-loop μ-loop
-mul-directives c = omega (arith, excepting-gap _ _ _ _ _ (c .before .before .loop .inv) _ (c .wide .ensures) (c .before .loop-test .taken) .within)
+mul-directives c = omega (arith, excepting-within _ _ _ _ (c .before .before .loop .inv) _ (c .wide .ensures) (c .before .loop-test .taken))
 
 shared-slice-read-directives : tie.Need-shared-slice-read-directives Inv-loop μ-loop
-shared-slice-read-directives c = omega (arith, excepting-gap _ _ _ _ _ (c .before .before .before .loop .inv) _ (c .before .wide .ensures) (c .before .before .loop-test .taken) .within)
+shared-slice-read-directives c = omega (arith, excepting-within _ _ _ _ (c .before .before .before .loop .inv) _ (c .before .wide .ensures) (c .before .before .loop-test .taken))
 
-shr-rest : tie.Need-shr-rest Inv-loop μ-loop
-shr-rest c = omega (arith, excepting-gap _ _ _ _ _ (c .before .before .before .loop .inv) _ (c .before .wide .ensures) (c .before .before .loop-test .taken) .within)
-
-add-passed : tie.Need-add-passed Inv-loop μ-loop
-add-passed c = omega (arith, excepting-gap _ _ _ _ _ (c .before .before .before .loop .inv) _ (c .before .wide .ensures) (c .before .before .loop-test .taken) .within)
+sub-rest : tie.Need-sub-rest Inv-loop μ-loop
+sub-rest c = search needs
 
 loop-less : tie.Need-loop-less Inv-loop μ-loop
-loop-less c = omega (arith, excepting-gap _ _ _ _ _ (c .before .before .before .loop .inv) _ (c .before .wide .ensures) (c .before .before .loop-test .taken) .within)
+loop-less c = excepting-less _ _ _ _ (c .before .before .before .loop .inv) _ (c .before .wide .ensures) (c .before .before .loop-test .taken)
 
 loop-again : tie.Need-loop-again Inv-loop μ-loop
-loop-again c = excepting-more _ _ _ _ _ (c .before .before .before .loop .inv) _ (c .before .wide .ensures) (c .before .before .loop-test .taken)
+loop-again c = excepting-more _ _ _ _ (c .before .before .before .loop .inv) _ (c .before .wide .ensures) (c .before .before .loop-test .taken)
 
 returns : tie.Need-returns Inv-loop μ-loop
-returns c = excepting-end _ _ _ _ _ (c .before .loop .inv) (c .loop-test .left)
+returns c = excepting-end _ _ _ _ (c .before .loop .inv) (c .loop-test .left)
 
 pub excepted-by-spec : {M : Type 1} → statement M
 excepted-by-spec =
@@ -53,12 +46,10 @@ excepted-by-spec =
     μ-loop
     loop-holds
     wide-requires
-    add-at
     add-directives
     mul-directives
     shared-slice-read-directives
-    shr-rest
-    add-passed
+    sub-rest
     loop-less
     loop-again
     returns)
