@@ -1,10 +1,13 @@
 -- The cells below a field. Assumes nothing.
 use mathlib.Core.Path.{_≡_, ap, sym, _∙_, subst}
+use mathlib.Core.Bool.{Bool, false, _||_}
 use mathlib.Core.List.{List, [], _∷_}
 use Prim.Native.Nat.{ℕ, _+_, _<_}
 use native.Mathlib.Omega.{arith}
 use native.Mathlib.Numerals.{add-one}
-use lib.Bits.{bitAnd, bitOr, bitXor, and-zero-l, or-zero-l, xor-zero-l}
+use borrow.Author.Tests.{le-ltb}
+use lib.Bits.{bitAnd, bitXor, and-zero-l}
+use lib.Dec.{ltb}
 use lib.ListN.{length, getD, drop-of-length-le}
 use lib.Seq.{drop-cons}
 use Rattle.meaning.specs.Fields.{range-none, range-more}
@@ -12,8 +15,8 @@ use Rattle.meaning.specs.Labels.{good}
 use Rattle.meaning.specs.Listings.{Agree}
 use Rattle.meaning.proofs.ListingUnique.{agree-at}
 use Rattle.cells.specs.declared.Left.{Left}
-use Rattle.cells.specs.Cells.{Chart, exceptedBy, asking, accepting, leftLabel, spot, leftAt, step, cellLabel, below, Same, Nothing}
-use Rattle.cells.proofs.Excepting.{excepted-none}
+use Rattle.cells.specs.Cells.{Chart, freeFrom, askedBy, accepting, leftLabel, spot, leftAt, step, cellLabel, below, Same, Nothing}
+use Rattle.cells.proofs.Freeing.{free-none}
 use Rattle.cells.proofs.Labels.{label-nothing}
 
 abbrev left : ℕ → ℕ → ℕ → Left
@@ -23,16 +26,20 @@ left r d e = record { rules = r; directives = d; exceptions = e }
 pub same-digits : (a b : Left) → a .rules ≡ b .rules → a .directives ≡ b .directives → a .exceptions ≡ b .exceptions → a ≡ b
 same-digits a b p q s = λ i. left (p i) (q i) (s i)
 
--- where nothing is left, the label is good
+-- where nothing is left, nothing is asked for
+nothing-asked : (words : List ℕ) (e turning own : ℕ) → e ≡ 0 → own ≡ 0 → askedBy words e turning own ≡ false
+unfolding askedBy
+nothing-asked words e turning own z o =
+    let none : bitAnd e turning ≡ 0 = ap (λ (x : ℕ). bitAnd x turning) z ∙ and-zero-l turning in
+    ap (λ (b : Bool). b || freeFrom 64 0 words e own) (le-ltb 0 (bitAnd e turning) (omega arith)) ∙ ap (freeFrom 64 0 words e) o ∙ free-none 64 0 words e
+
+-- and the label is good
 nothing-good : (words : List ℕ) (s : Left) → Nothing s → leftLabel words s ≡ good
-unfolding leftLabel exceptedBy
+unfolding leftLabel
 nothing-good words s n =
-    let x : exceptedBy words (s .exceptions) ≡ 0 = ap (exceptedBy words) (n .no-exception) ∙ excepted-none 64 0 words 0 in
-    let asked : asking words s ≡ 0 = ap (λ (d : ℕ). bitOr d (exceptedBy words (s .exceptions))) (n .no-directive) ∙ or-zero-l (exceptedBy words (s .exceptions)) ∙ x in
-    let accept : accepting words s ≡ 0 =
-    ap (λ (d : ℕ). bitAnd d (bitXor (getD words 1 0) (exceptedBy words (s .exceptions)))) asked ∙ and-zero-l (bitXor (getD words 1 0) (exceptedBy words (s .exceptions))) in
-    let deny : bitXor (asking words s) (accepting words s) ≡ 0 = ap (λ (d : ℕ). bitXor d (accepting words s)) asked ∙ xor-zero-l (accepting words s) ∙ accept in
-    sym (label-nothing _ _ _ _ _ accept deny (n .no-rule))
+    let own : accepting words s ≡ 0 = ap (λ (x : ℕ). bitAnd x (getD words 1 0)) (n .no-directive) ∙ and-zero-l (getD words 1 0) in
+    let other : bitXor (s .directives) (accepting words s) ≡ 0 = (λ i. bitXor (n .no-directive i) (own i)) in
+    sym (label-nothing _ _ _ _ _ (nothing-asked words _ _ _ (n .no-exception) own) (nothing-asked words _ _ _ (n .no-exception) other) (n .no-rule))
 
 nothing-steps : (w : Chart) (field : ℕ) (s : Left) (strip : ℕ) → Nothing s → Nothing (step w field s strip)
 unfolding leftAt

@@ -5,7 +5,6 @@ use Prim.Native.Nat.{ℕ, _+_, _≤_, _<_}
 use native.Mathlib.Omega.{arith}
 use native.Mathlib.Decide.{decLt}
 use lib.ListN.{length, getD}
-use Rattle.meaning.specs.Labels.{Label}
 use Rattle.cells.specs.declared.Left.{Left}
 use Rattle.cells.specs.Cells.{Chart, Formed, leftLabel, step, Same, Tells}
 use Rattle.cells.proofs.Below.{same-last, differ-last, same-strips, differ-strip}
@@ -63,10 +62,7 @@ module _ (w : Chart) (field : ℕ) (a b : Left) (count : ℕ) where
         (subst (λ (u : Left). ¬ Same w (field + 1) u (step w field b strip)) ex (subst (λ (u : Left). ¬ Same w (field + 1) x′ u) ey d))
 
 -- where no field is left, the answer is whether the labels are the same
-pub told-last : (w : Chart) (field : ℕ) (a b : Left) (r : Bool) (l m : Label) → field ≡ length (w .counts)
-    → l ≡ leftLabel (w .words) a
-    → m ≡ leftLabel (w .words) b
-    → Tells r (l ≡ m)
+pub told-last : (w : Chart) (field : ℕ) (a b : Left) (r : Bool) → field ≡ length (w .counts) → Tells r (leftLabel (w .words) a ≡ leftLabel (w .words) b)
     → Tells r (Same w field a b)
-told-last w field a b true l m e la mb t = same-last w field a b e (sym la ∙ t ∙ mb)
-told-last w field a b false l m e la mb t = differ-last w field a b e (λ s. t (la ∙ s ∙ sym mb))
+told-last w field a b true e t = same-last w field a b e t
+told-last w field a b false e t = differ-last w field a b e t

@@ -3,9 +3,10 @@ pub mod MaskLaws
 pub mod Stores
 pub mod Telling
 pub mod Below
-pub mod PacketLabels
 mod Labels
-mod Excepting
+pub mod LabelNumbers
+mod Freeing
 mod Comparing
 mod FirstRules
 mod AskingDirectives
+pub mod PacketLabels

@@ -1,21 +1,21 @@
 -- Cells: the rules, directives and exceptions that are left in a cell, and the label that they give.
-use mathlib.Core.Bool.{Bool, true, false, cond}
+use mathlib.Core.Bool.{Bool, true, false, _&&_, _||_, cond}
 use mathlib.Core.List.{List, [], _∷_}
 use mathlib.Core.Path.{_≡_}
 use Prim.Native.Nat.{ℕ, zero, suc, _+_, _*_, _/_, _%_, _≤_}
-use lib.Bits.{bitAnd, bitOr, bitXor}
+use lib.Bits.{bitAnd, bitXor}
 use lib.Count.{trailingZeros}
 use lib.Dec.{eqb, ltb}
 use lib.ListN.{length, getD, drop}
-use Rattle.meaning.specs.Labels.{Label, judged}
+use Rattle.meaning.specs.Labels.{Label, kind, rule, judged}
 use Rattle.meaning.specs.Listings.{Agree}
 use Rattle.meaning.specs.Records.{nothing, found}
 use Rattle.meaning.specs.Rules.{accept, deny}
 use Rattle.cells.specs.declared.Left.{Left}
 
--- What a walk looks at. The words are: which rules accept; which directives ask for accept; for each of 64 exceptions the digit of
--- its directive; and from 66 on for each of 321 strips of each field the rules, directives and exceptions whose span holds it. The
--- counts are the fields' numbers of strips.
+-- What a walk looks at. The words are: which rules accept; which directives ask for accept; the exceptions of the directives that
+-- accept, and of those that deny; for each of 64 directives its exceptions; and from 68 on for each of 321 strips of each field the
+-- rules, directives and exceptions whose span holds it. The counts are the fields' numbers of strips.
 pub record Chart : Type 0 where
   pub words : List ℕ
   pub counts : List ℕ
@@ -25,40 +25,46 @@ chart words counts = record { words = words; counts = counts }
 
 -- there are words for every strip, and no field has more strips than there is room for
 pub record Formed (w : Chart) : Type 0 where
-  pub long : length (w .words) ≡ 963 * length (w .counts) + 66
+  pub long : length (w .words) ≡ 963 * length (w .counts) + 68
   pub few : (field : ℕ) → getD (w .counts) field 0 ≤ 321
 
--- x, and the directives of the exceptions in e, whose lowest digit is exception t and which are m at most
-unfoldable pub exceptedFrom : ℕ → ℕ → List ℕ → ℕ → ℕ → ℕ
-exceptedFrom zero t words e x = x
-exceptedFrom (suc m) t words e x = exceptedFrom m (t + 1) words (e / 2) (cond (eqb (e % 2) 1) (bitOr x (getD words (2 + t) 0)) x)
+-- a directive in `rest` has no exception in e; the lowest digit of `rest` is directive t, counted from 0, and there are m at most
+unfoldable pub freeFrom : ℕ → ℕ → List ℕ → ℕ → ℕ → Bool
+freeFrom zero t words e rest = false
+freeFrom (suc m) t words e rest = (eqb (rest % 2) 1 && eqb (bitAnd e (getD words (4 + t) 0)) 0) || freeFrom m (t + 1) words e (rest / 2)
 
--- the directives of the exceptions in e
-unfoldable pub exceptedBy : List ℕ → ℕ → ℕ
-exceptedBy words e = exceptedFrom 64 0 words e 0
+-- an action is asked for: by an exception in e of a directive that asks for the opposite, or by a directive of its own without one
+unfoldable pub askedBy : List ℕ → ℕ → ℕ → ℕ → Bool
+askedBy words e turning own = ltb 0 (bitAnd e turning) || freeFrom 64 0 words e own
 
--- the label by the directives that ask accept and deny, the rules left, the first of these, and the first of these that accepts
-unfoldable pub labelBy : ℕ → ℕ → ℕ → ℕ → ℕ → Label
-labelBy asking-accept asking-deny rules t u =
-    judged (ltb 0 asking-accept) (ltb 0 asking-deny)
-    (cond (eqb rules 0) nothing (found (t + 1) (record { action = cond (eqb t u) accept deny; block = [] })))
+-- the label by whether accept and deny are asked for, the rules left, the first of these, and the first of these that accepts
+unfoldable pub labelBy : Bool → Bool → ℕ → ℕ → ℕ → Label
+labelBy accepted denied rules t u =
+    judged accepted denied (cond (eqb rules 0) nothing (found (t + 1) (record { action = cond (eqb t u) accept deny; block = [] })))
 
--- the directives left that ask for something, and those of them that ask for accept: an exception left asks for the opposite
-abbrev pub asking : List ℕ → Left → ℕ
-asking words s = bitOr (s .directives) (exceptedBy words (s .exceptions))
-
+-- the directives left that ask for accept, and whether accept and deny are asked for
 abbrev pub accepting : List ℕ → Left → ℕ
-accepting words s = bitAnd (asking words s) (bitXor (getD words 1 0) (exceptedBy words (s .exceptions)))
+accepting words s = bitAnd (s .directives) (getD words 1 0)
+
+abbrev pub acceptAsked : List ℕ → Left → Bool
+acceptAsked words s = askedBy words (s .exceptions) (getD words 3 0) (accepting words s)
+
+abbrev pub denyAsked : List ℕ → Left → Bool
+denyAsked words s = askedBy words (s .exceptions) (getD words 2 0) (bitXor (s .directives) (accepting words s))
 
 -- the label that what is left gives
 unfoldable pub leftLabel : List ℕ → Left → Label
 leftLabel words s =
-    labelBy (accepting words s) (bitXor (asking words s) (accepting words s)) (s .rules) (trailingZeros 64 (s .rules))
+    labelBy (acceptAsked words s) (denyAsked words s) (s .rules) (trailingZeros 64 (s .rules))
     (trailingZeros 64 (bitAnd (s .rules) (getD words 0 0)))
+
+-- a label as one number: its kind, and eight times its rule
+abbrev pub labelNumber : Label → ℕ
+labelNumber l = kind l + 8 * rule l
 
 -- where the words of a strip of a field begin
 abbrev pub spot : ℕ → ℕ → ℕ
-spot field strip = 3 * (field * 321 + strip) + 66
+spot field strip = 3 * (field * 321 + strip) + 68
 
 -- what is left of s at a strip of a field
 unfoldable pub leftAt : List ℕ → ℕ → ℕ → Left → Left

@@ -1,9 +1,9 @@
--- The words that tell of actions: which rules and directives accept, and which directive each exception names.
-use mathlib.Core.Bool.{Bool, _&&_, cond}
-use mathlib.Core.List.{List, []}
+-- The words that tell of actions: which rules and directives accept, and which exceptions belong to which directives.
+use mathlib.Core.Bool.{Bool, not, _&&_, _||_, false}
+use mathlib.Core.List.{List, [], _∷_}
 use mathlib.Core.Path.{_≡_}
-use Prim.Native.Nat.{ℕ, _+_, _-_, _^_, _<_}
-use lib.Dec.{leb, ltb}
+use Prim.Native.Nat.{ℕ, suc, _+_, _<_}
+use lib.Dec.{eqb}
 use lib.ListN.{length, getD}
 use Rattle.meaning.specs.Form.{Exception}
 use Rattle.meaning.specs.Rules.{Rule, accept, sameAction}
@@ -13,16 +13,15 @@ use Rattle.cells.specs.Masks.{mask}
 abbrev pub accepts : Rule → Bool
 accepts r = sameAction accept (r .action)
 
--- the digit of directive n of so many; none, if there is no such directive
-unfoldable pub directiveDigit : ℕ → ℕ → ℕ
-directiveDigit count n = cond (ltb 0 n && leb n count) (2 ^ (n - 1)) 0
+-- the directive with number j passes a test, where the first has the number n
+unfoldable pub namesSuch : (Rule → Bool) → ℕ → List Rule → ℕ → Bool
+namesSuch test n [] j = false
+namesSuch test n (d ∷ ds) j = (eqb j n && test d) || namesSuch test (suc n) ds j
 
--- the number of the directive that exception t names, counted from 0; 0 past the last
-abbrev pub exceptionAt : List Exception → ℕ → ℕ
-exceptionAt exceptions t = getD exceptions t (record { directive = 0; block = [] }) .directive
-
--- the first 66 words of a walk for these rules, directives and exceptions
+-- the first 68 words of a walk for these rules, directives and exceptions
 pub record WordsOf (rules directives : List Rule) (exceptions : List Exception) (words : List ℕ) : Type 0 where
   pub accepting-rules : getD words 0 0 ≡ mask accepts rules
   pub accepting-directives : getD words 1 0 ≡ mask accepts directives
-  pub directive-digits : (t : ℕ) → t < length exceptions → getD words (2 + t) 0 ≡ directiveDigit (length directives) (exceptionAt exceptions t)
+  pub of-accepting : getD words 2 0 ≡ mask (λ (e : Exception). namesSuch accepts 1 directives (e .directive)) exceptions
+  pub of-denying : getD words 3 0 ≡ mask (λ (e : Exception). namesSuch (λ (d : Rule). not (accepts d)) 1 directives (e .directive)) exceptions
+  pub of-each : (t : ℕ) → t < length directives → getD words (4 + t) 0 ≡ mask (λ (e : Exception). eqb (e .directive) (suc t)) exceptions

@@ -3,12 +3,10 @@
 // words of a walk and the counts of strips are lent; `specs/Cells` says what stands where. `alike` is written once for all fields
 // and stops at the first cell with another label.
 
-use sets::Label;
 ghost use mathlib.Core.Path.{_≡_};
 ghost use Prim.Native.Nat.{ℕ, _+_, _*_, _≤_, _<_};
 ghost use lib.ListN.{length};
-ghost use Rattle.sets.specs.Vocabulary.{labelOf};
-ghost use Rattle.cells.specs.Cells.{chart, Formed, exceptedBy, leftLabel, leftAt, Same, Tells, Nothing};
+ghost use Rattle.cells.specs.Cells.{chart, Formed, labelNumber, askedBy, leftLabel, leftAt, Same, Tells, Nothing};
 
 // The fields of a packet.
 pub const FIELDS: usize = 4;
@@ -19,7 +17,7 @@ pub const MOST_STRIPS: usize = 2
     + 1;
 
 // Where the masks begin among the words of a walk.
-pub const FIRST_MASK: usize = 2 + sets::MOST_EXCEPTIONS;
+pub const FIRST_MASK: usize = 4 + 64;
 
 // The rules, directives and exceptions that are left, a binary digit for each.
 pub struct Left {
@@ -41,7 +39,7 @@ pub fn alike(field: usize, a: Left, b: Left, words: &[u64], counts: &[usize]) ->
         return true;
     }
     if field == counts.len() {
-        return same_label(label_of(a, words), label_of(b, words));
+        return same_label(a, b, words);
     }
     let end = counts[field];
     let mut before = Left {
@@ -68,7 +66,7 @@ pub fn alike(field: usize, a: Left, b: Left, words: &[u64], counts: &[usize]) ->
 
 // What is left of the sets at a strip of a field.
 pub fn left_at(field: usize, strip: usize, left: Left, words: &[u64]) -> Left
-    requires { ⌜ 3 * (field * 321 + strip) + 68 < length (now words) ⌝ }
+    requires { ⌜ 3 * (field * 321 + strip) + 70 < length (now words) ⌝ }
     ensures { λ r. ⌜ r ≡ leftAt (now (words .entry)) field strip left ⌝ }
 {
     let at = 3 * (field * MOST_STRIPS + strip) + FIRST_MASK;
@@ -79,57 +77,63 @@ pub fn left_at(field: usize, strip: usize, left: Left, words: &[u64]) -> Left
     }
 }
 
-// The label that what is left gives.
-pub fn label_of(left: Left, words: &[u64]) -> Label
-    requires { ⌜ 66 ≤ length (now words) ⌝ }
-    ensures { λ r. ⌜ labelOf r ≡ leftLabel (now (words .entry)) left ⌝ }
+// The label that these rules, directives and exceptions give, as one number: its kind, and eight times its rule. A walk can so hold
+// what is left, and its label, without storing it.
+pub fn label_number(rules: u64, directives: u64, exceptions: u64, words: &[u64]) -> u32
+    requires { ⌜ 68 ≤ length (now words) ⌝ }
+    ensures { λ r. ⌜ r ≡ labelNumber (leftLabel (now (words .entry)) (record { rules = rules; directives = directives; exceptions = exceptions })) ⌝ }
 {
-    let excepted = excepted_by(left.exceptions, words);
-    let asking = left.directives | excepted;
-    let accept = asking & (words[1] ^ excepted);
-    let deny = asking ^ accept;
-    let first = u64::trailing_zeros(left.rules);
-    let accepting = u64::trailing_zeros(left.rules & words[0]);
-    if accept == 0 {
-        if deny == 0 {
-            if left.rules == 0 {
-                return Label::Good;
-            }
-            return Label::Unasked(first + 1);
+    let own = directives & words[1];
+    let accept = asked(exceptions, words[3], own, words);
+    let deny = asked(exceptions, words[2], directives ^ own, words);
+    let first = u64::trailing_zeros(rules);
+    let accepting = u64::trailing_zeros(rules & words[0]);
+    let rule = 8 * (first + 1);
+    if accept {
+        if deny {
+            return 1;
         }
-        if left.rules == 0 {
-            return Label::UnmetDeny;
+        if rules == 0 {
+            return 4;
         }
         if first == accepting {
-            return Label::Wrong(first + 1);
+            return 0;
         }
-        return Label::Good;
+        return 2 + rule;
     }
-    if deny == 0 {
-        if left.rules == 0 {
-            return Label::UnmetAccept;
+    if rules == 0 {
+        if deny {
+            return 5;
         }
+        return 0;
+    }
+    if deny {
         if first == accepting {
-            return Label::Good;
+            return 2 + rule;
         }
-        return Label::Wrong(first + 1);
+        return 0;
     }
-    Label::Conflict
+    3 + rule
 }
 
-// The directives of these exceptions. It goes from each exception to the next.
-fn excepted_by(exceptions: u64, words: &[u64]) -> u64
-    requires { ⌜ 66 ≤ length (now words) ⌝ }
-    ensures { λ r. ⌜ r ≡ exceptedBy (now (words .entry)) exceptions ⌝ }
+// Whether an action is asked for: by one of these exceptions, if one belongs to a directive that asks for the opposite, or by one
+// of these directives of its own, if one has none of the exceptions.
+fn asked(exceptions: u64, turning: u64, own: u64, words: &[u64]) -> bool
+    requires { ⌜ 68 ≤ length (now words) ⌝ }
+    ensures { λ r. ⌜ r ≡ askedBy (now (words .entry)) exceptions turning own ⌝ }
 {
-    let mut directives: u64 = 0;
-    let mut rest = exceptions;
+    if exceptions & turning != 0 {
+        return true;
+    }
+    let mut rest = own;
     while rest != 0 {
         let first = wide(u64::trailing_zeros(rest));
-        directives = directives | words[2 + first];
+        if exceptions & words[4 + first] == 0 {
+            return true;
+        }
         rest = rest & (rest - 1);
     }
-    directives
+    false
 }
 
 // The same number, wider.
@@ -139,14 +143,14 @@ fn wide(x: u32) -> usize
     x as usize
 }
 
-// Whether two labels are the same.
-fn same_label(a: Label, b: Label) -> bool
-    ensures { λ r. ⌜ Tells r (labelOf a ≡ labelOf b) ⌝ }
+// Whether a and b give the same label.
+fn same_label(a: Left, b: Left, words: &[u64]) -> bool
+    requires { ⌜ 68 ≤ length (now words) ⌝ }
+    ensures { λ r. ⌜ Tells r (leftLabel (now (words .entry)) a ≡ leftLabel (now (words .entry)) b) ⌝ }
 {
-    if a.kind() == b.kind() {
-        if a.rule() == b.rule() {
-            return true;
-        }
+    let number = label_number(a.rules, a.directives, a.exceptions, words);
+    if label_number(b.rules, b.directives, b.exceptions, words) == number {
+        return true;
     }
     false
 }

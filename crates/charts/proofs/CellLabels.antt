@@ -26,13 +26,15 @@ use Rattle.charts.proofs.Lefts.{everything, leftBy, MasksBehind, left-i
 use Rattle.charts.proofs.Parts.{parts-all}
 
 -- the first words are what they are in front
-words-in-front : (rs ds : List rules.Rule) (es : List form.Exception) (front masks : List ℕ) → length front ≡ 66 → length es ≤ 64 → WordsOf rs ds es front
+words-in-front : (rs ds : List rules.Rule) (es : List form.Exception) (front masks : List ℕ) → length front ≡ 68 → length ds ≤ 64 → WordsOf rs ds es front
     → WordsOf rs ds es (front ++ masks)
 words-in-front rs ds es front masks long few w =
     record {
       accepting-rules = List·getD-append front masks 0 0 (omega arith) ∙ w .accepting-rules;
       accepting-directives = List·getD-append front masks 0 1 (omega arith) ∙ w .accepting-directives;
-      directive-digits = λ t h. List·getD-append front masks 0 (2 + t) (omega arith) ∙ w .directive-digits t h;
+      of-accepting = List·getD-append front masks 0 2 (omega arith) ∙ w .of-accepting;
+      of-denying = List·getD-append front masks 0 3 (omega arith) ∙ w .of-denying;
+      of-each = λ t h. List·getD-append front masks 0 (4 + t) (omega arith) ∙ w .of-each t h;
     }
 
 module _ {r : Rules} {p : Policy} {words counts places : List ℕ} (limited : Limited r p) (c : Charted r p words counts places) where
@@ -50,7 +52,7 @@ module _ {r : Rules} {p : Policy} {words counts places : List ℕ} (limited : Li
   -- the masks stand behind the front
   behind : MasksBehind words (c .masks)
   behind j =
-      ap (λ (ws : List ℕ). getD ws (66 + j) 0) (c .words-are)
+      ap (λ (ws : List ℕ). getD ws (68 + j) 0) (c .words-are)
       ∙ ap (λ (k : ℕ). getD (c .front ++ c .masks) (k + j) 0) (sym (c .front-long))
       ∙ getD-append-add (c .front) (c .masks) j 0
 
@@ -71,12 +73,12 @@ module _ {r : Rules} {p : Policy} {words counts places : List ℕ} (limited : Li
       let few-directives : length (directiveBlocks p) ≤ 64 = omega (arith, c .counted .directives, limited .few-directives) in
       let few-exceptions : length (exceptionBlocks p) ≤ 64 = omega (arith, c .counted .exceptions, limited .few-exceptions) in
       let rules-few : length (rulesOf r) ≤ 64 = omega (arith, length-map (rulesOf r) (λ (x : rules.Rule). x .block)) in
-      let exceptions-few : length (exceptionsOf p) ≤ 64 = omega (arith, length-map (exceptionsOf p) (λ (x : form.Exception). x .block)) in
+      let directives-few : length (directivesOf p) ≤ 64 = omega (arith, length-map (directivesOf p) (λ (x : rules.Rule). x .block)) in
       let front : WordsOf (rulesOf r) (directivesOf p) (exceptionsOf p) words =
       subst (WordsOf (rulesOf r) (directivesOf p) (exceptionsOf p)) (sym (c .words-are))
-      (words-in-front (rulesOf r) (directivesOf p) (exceptionsOf p) (c .front) (c .masks) (c .front-long) exceptions-few (c .front-words)) in
+      (words-in-front (rulesOf r) (directivesOf p) (exceptionsOf p) (c .front) (c .masks) (c .front-long) directives-few (c .front-words)) in
       sym
       (ap (leftLabel words)
       (left-in-all (c .numbers) words counts (c .masks) behind (ruleBlocks r) (directiveBlocks p) (exceptionBlocks p) (all-four r p) (c .numbered) fieldsCharted refl few-rules few-directives few-exceptions (parts-all 963 (c .masks)) lies
       ∙ by-records q)
-      ∙ packet-label (rulesOf r) (directivesOf p) (exceptionsOf p) words q rules-few exceptions-few front)
+      ∙ packet-label (rulesOf r) (directivesOf p) (exceptionsOf p) words q rules-few directives-few front)

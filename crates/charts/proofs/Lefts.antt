@@ -74,9 +74,9 @@ and-assoc : (a b c : Bool) → (a && b && c) ≡ (a && (b && c))
 and-assoc true b c = refl
 and-assoc false b c = refl
 
--- The words have the masks of all fields behind the first 66.
+-- The words have the masks of all fields behind the first 68.
 abbrev pub MasksBehind : List ℕ → List ℕ → Type 0
-MasksBehind words masks = (j : ℕ) → getD words (66 + j) 0 ≡ getD masks j 0
+MasksBehind words masks = (j : ℕ) → getD words (68 + j) 0 ≡ getD masks j 0
 
 module _
     (numbers words counts all-masks : List ℕ)
@@ -112,7 +112,7 @@ module _
         left-at-strip =
             let few : i < 321 = omega (arith, c .counted, c .few) in
             let word : (j : ℕ) → j < 3 → getD words (spot field i + j) 0 ≡ getD masks (3 * i + j) 0 =
-            λ j l. let at : spot field i + j ≡ 66 + (963 * field + (3 * i + j)) = omega arith in
+            λ j l. let at : spot field i + j ≡ 68 + (963 * field + (3 * i + j)) = omega arith in
             ap (λ (k : ℕ). getD words k 0) at ∙ behind (963 * field + (3 * i + j)) ∙ there (3 * i + j) (omega arith) in
             let none : spot field i ≡ spot field i + 0 = omega arith in
             let first : 3 * i + 0 ≡ 3 * i = omega arith in

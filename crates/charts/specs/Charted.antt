@@ -62,7 +62,7 @@ pub record Charted (r : Rules) (p : Policy) (words counts places : List ℕ) : T
   -- the bounds of all blocks, side by side
   pub numbered : InFront (allBlocks r p) numbers
   pub front : List ℕ
-  pub front-long : length front ≡ 66
+  pub front-long : length front ≡ 68
   pub masks : List ℕ
   pub words-are : words ≡ front ++ masks
   pub front-words : WordsOf (rulesOf r) (directivesOf p) (exceptionsOf p) front

@@ -1,6 +1,6 @@
 // The chart of a rule set and a policy: what a walk over their strips looks at. It puts the bounds of all blocks side by side,
-// tells which rules and directives accept and which directive each exception names, and fills the chart of each field. The
-// contract of `chart` says that the lent arrays are filled as `specs/Charted` says.
+// tells which rules and directives accept and which exceptions belong to which directives, and fills the chart of each field.
+// The contract of `chart` says that the lent arrays are filled as `specs/Charted` says.
 
 use blocks::Block;
 use cells::FIELDS;
@@ -13,19 +13,21 @@ ghost use mathlib.Core.Bool.{cond};
 ghost use mathlib.Core.Path.{_≡_};
 ghost use Prim.Native.Nat.{_+_, _*_, _≤_};
 ghost use lib.ListN.{length, take};
+ghost use lib.Dec.{eqb};
 ghost use lib.Seq.{sets};
 ghost use Rattle.meaning.specs.Buffers.{bounds};
 ghost use Rattle.meaning.specs.Fields.{fields};
+ghost use Rattle.meaning.specs.Form.{Exception};
 ghost use Rattle.blocks.specs.Vocabulary.{blockOf};
 ghost use Rattle.sets.specs.Vocabulary.{actionOf};
 ghost use Rattle.meaning.specs.Rules.{accept, sameAction};
 ghost use Rattle.cells.specs.Masks.{mask};
-ghost use Rattle.cells.specs.Words.{accepts, directiveDigit, WordsOf};
+ghost use Rattle.cells.specs.Words.{accepts, WordsOf};
 ghost use Rattle.strips.specs.Spans.{numbersOf};
 ghost use Rattle.charts.specs.Charted.{BlocksCounted, Limited, rulesOf, FieldsCharted, Charted};
 ghost use Rattle.sets.specs.Inner.{directivesOf, exceptionsOf};
 ghost use Rattle.charts.specs.Charted.{ruleBlocks, directiveBlocks, exceptionBlocks};
-ghost use Rattle.charts.specs.Inner.{digitsOf};
+ghost use Rattle.charts.specs.Inner.{ownersOf, OwnersPut, TurningPut};
 ghost use Rattle.charts.specs.Charted.{allBlocks};
 ghost use Rattle.strips.specs.Spans.{InFront};
 
@@ -57,7 +59,7 @@ pub fn chart(
     places: &mut [u64],
 )
     requires { ⌜ Limited rules policy ⌝ }
-    requires { ⌜ (length (now words) ≡ 3918) × (length (now counts) ≡ 4) × (length (now places) ≡ 1288) ⌝ }
+    requires { ⌜ (length (now words) ≡ 3920) × (length (now counts) ≡ 4) × (length (now places) ≡ 1288) ⌝ }
     ensures { λ r. ⌜ Charted rules policy (now (words .exit)) (now (counts .exit)) (now (places .exit)) ⌝ }
 {
     let mut numbers = [0u32; NUMBERS];
@@ -108,15 +110,16 @@ fn chart_fields(
     }
 }
 
-// Writes the words that tell of actions: which rules and directives accept, and which directive each exception names.
+// Writes the words that tell of actions: which rules and directives accept, and which exceptions belong to which directives.
 fn put_front(rules: Rules, policy: Policy, words: &mut [u64])
     requires { ⌜ Limited rules policy ⌝ }
-    requires { ⌜ length (now words) ≡ 3918 ⌝ }
-    ensures { λ r. ⌜ WordsOf (rulesOf rules) (directivesOf policy) (exceptionsOf policy) (take 66 (now (words .exit))) ⌝ }
+    requires { ⌜ length (now words) ≡ 3920 ⌝ }
+    ensures { λ r. ⌜ WordsOf (rulesOf rules) (directivesOf policy) (exceptionsOf policy) (take 68 (now (words .exit))) ⌝ }
 {
     words[0] = accepting_rules(rules);
     words[1] = accepting_directives(policy);
-    put_digits(policy, words);
+    put_owners(policy, words);
+    put_turning(policy, words);
 }
 
 // Puts the bounds of all blocks side by side: those of the rules, of the directives and of the exceptions.
@@ -228,30 +231,62 @@ fn accepting(action: Action) -> u64
     }
 }
 
-// Writes for each exception the digit of its directive, from word 2 on.
-fn put_digits(policy: Policy, words: &mut [u64])
-    requires { ⌜ (policy .«directive_count» ≤ 32) × (policy .«exception_count» ≤ 64) × (length (now words) ≡ 3918) ⌝ }
-    ensures { λ r. ⌜ now (words .exit) ≡ sets (now (words .entry)) 2 (digitsOf policy) ⌝ }
+// Writes the exceptions of each directive, from word 4 on.
+fn put_owners(policy: Policy, words: &mut [u64])
+    requires { ⌜ (policy .«directive_count» ≤ 32) × (policy .«exception_count» ≤ 64) × (length (now words) ≡ 3920) ⌝ }
+    ensures { λ r. ⌜ now (words .exit) ≡ sets (now (words .entry)) 4 (ownersOf policy) ⌝ }
 {
     let mut i: usize = 0;
-    while i < policy.exception_count {
-        let exception = policy.exceptions[i];
-        words[2 + i] = directive_digit(policy.directive_count, exception.directive);
+    while i < policy.directive_count {
+        words[4 + i] = exceptions_of(policy, i + 1);
         i += 1;
     }
 }
 
-// The digit of a directive by its number, of so many directives; 0 if there is no such directive.
-fn directive_digit(count: usize, number: u32) -> u64
-    requires { ⌜ count ≤ 32 ⌝ }
-    ensures { λ r. ⌜ r ≡ directiveDigit count number ⌝ }
+// The exceptions of the directive with this number.
+fn exceptions_of(policy: Policy, number: usize) -> u64
+    requires { ⌜ policy .«exception_count» ≤ 64 ⌝ }
+    ensures { λ r. ⌜ r ≡ mask (λ (e : Exception). eqb (e .directive) number) (exceptionsOf policy) ⌝ }
 {
-    let n = number as usize;
-    if n == 0 {
-        return 0;
+    let mut mask: u64 = 0;
+    let mut i = policy.exception_count;
+    while 0 < i {
+        i -= 1;
+        let exception = policy.exceptions[i];
+        mask = named(exception.directive, number) + 2 * mask;
     }
-    if count < n {
-        return 0;
+    mask
+}
+
+// 1 if the directive is the one with this number, else 0.
+fn named(directive: u32, number: usize) -> u64
+    ensures { λ r. ⌜ r ≡ cond (eqb directive number) 1 0 ⌝ }
+{
+    if directive as usize == number {
+        return 1;
     }
-    1 << (n - 1)
+    0
+}
+
+// Writes the exceptions of the directives that accept, and of those that deny, in words 2 and 3.
+fn put_turning(policy: Policy, words: &mut [u64])
+    requires { ⌜ (policy .«directive_count» ≤ 32) × (length (now words) ≡ 3920) × OwnersPut policy (now words) ⌝ }
+    ensures { λ r. ⌜ TurningPut policy (now (words .entry)) (now (words .exit)) ⌝ }
+{
+    let mut accept: u64 = 0;
+    let mut deny: u64 = 0;
+    let mut i: usize = 0;
+    while i < policy.directive_count {
+        let directive = policy.directives[i];
+        let action = directive.action;
+        let own = words[4 + i];
+        i += 1;
+        if accepting(action) == 1 {
+            accept = accept | own;
+        } else {
+            deny = deny | own;
+        }
+    }
+    words[2] = accept;
+    words[3] = deny;
 }

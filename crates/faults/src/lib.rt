@@ -33,7 +33,7 @@ pub struct Listed {
 }
 
 // The rank of the label good.
-const GOOD: u32 = 66;
+const GOOD: usize = 66;
 
 // All rules, directives and exceptions.
 const EVERYTHING: Left = Left {

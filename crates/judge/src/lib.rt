@@ -1,27 +1,25 @@
 // The verdict's cell: of all cells the first of those whose label has the lowest rank. It walks the cells in order, once for all
-// fields, with the best cell so far by value; it passes over a strip where nothing is left or the same as at the strip before, and
-// stops at rank 0. It works on masks and strips by number and knows no address.
+// fields, and looks for what is better than the best so far; it passes over a strip where nothing is left or the same as at the
+// strip before, and stops at rank 0. It works on masks and strips by number and knows no address.
 
 use cells::FIELDS;
 use cells::Left;
-use sets::Label;
+ghost use mathlib.Core.List.{[], _∷_};
 ghost use mathlib.Core.Path.{_≡_};
-ghost use Prim.Native.Nat.{ℕ, _≤_, _<_};
-ghost use lib.ListN.{length, take, set};
-ghost use Rattle.meaning.proofs.VerdictRanks.{rank};
-ghost use Rattle.sets.specs.Vocabulary.{labelOf};
+ghost use Prim.Native.Nat.{ℕ, _+_, _≤_, _<_};
+ghost use lib.ListN.{length, drop};
 ghost use Rattle.cells.specs.Cells.{chart, Formed, below};
-ghost use Rattle.judge.specs.Ranks.{cellRank, BetterOf, BestOf};
+ghost use Rattle.judge.specs.Ranks.{RankOf, cellRank, BetterThan, BestOf};
 
 // The rank of an unmet label, behind every rule's number.
-const UNMET: u32 = sets::MOST_RULES as u32 + 1;
+const UNMET: usize = sets::MOST_RULES + 1;
 
 // The rank of a good label, which comes last.
-const GOOD: u32 = UNMET + 1;
+const GOOD: usize = UNMET + 1;
 
-// The best cell so far: the rank of its label, and its strip in each field. There is none so far if the rank is 66.
+// A cell: the rank of its label, and its strip in each field. There is none if the rank is 66.
 pub struct Best {
-    pub rank: u32,
+    pub rank: usize,
     pub strips: [usize; FIELDS],
 }
 
@@ -31,41 +29,32 @@ pub fn best_cell(left: Left, words: &[u64], counts: &[usize]) -> Best
     requires { ⌜ Formed (chart (now words) (now counts)) ⌝ }
     ensures { λ r. ⌜ BestOf (now (counts .entry)) (cellRank (chart (now (words .entry)) (now (counts .entry))) 0 left) r ⌝ }
 {
-    let none = Best {
-        rank: GOOD,
-        strips: [0; FIELDS],
-    };
-    best_below(0, left, [0; FIELDS], none, words, counts)
+    best_below(0, left, GOOD, words, counts)
 }
 
-// The best of the cells below a field and of the best so far. The strips of the fields before it are given.
-fn best_below(
-    field: usize,
-    left: Left,
-    strips: [usize; FIELDS],
-    best: Best,
-    words: &[u64],
-    counts: &[usize],
-) -> Best
-    requires { ⌜ (field ≤ 4) × (length (now counts) ≡ 4) × (best .rank ≤ 66) ⌝ }
+// The best of the cells below a field, if it is better than the limit: its rank, and its strips from that field on. If there is
+// none, the rank is the limit.
+fn best_below(field: usize, left: Left, limit: usize, words: &[u64], counts: &[usize]) -> Best
+    requires { ⌜ (field ≤ 4) × (length (now counts) ≡ 4) × (limit ≤ 66) ⌝ }
     requires { ⌜ Formed (chart (now words) (now counts)) ⌝ }
-    ensures { λ r. ⌜ BetterOf (below (chart (now (words .entry)) (now (counts .entry))) field) (cellRank (chart (now (words .entry)) (now (counts .entry))) field left) (take field strips) best r ⌝ }
+    ensures { λ r. ⌜ BetterThan (below (chart (now (words .entry)) (now (counts .entry))) field) (cellRank (chart (now (words .entry)) (now (counts .entry))) field left) field limit r ⌝ }
 {
-    if best.rank == 0 {
-        return best;
+    if limit == 0 {
+        return last(limit);
     }
     if cells::nothing(left) {
-        return best;
+        return last(limit);
     }
     if field == FIELDS {
-        let rank = rank_of(cells::label_of(left, words));
-        if rank < best.rank {
-            return Best { rank, strips };
+        let label = cells::label_number(left.rules, left.directives, left.exceptions, words);
+        let rank = rank_of(label);
+        if rank < limit {
+            return last(rank);
         }
-        return best;
+        return last(limit);
     }
     let end = counts[field];
-    let mut so_far = best;
+    let mut best = last(limit);
     let mut before = Left {
         rules: 0,
         directives: 0,
@@ -77,34 +66,59 @@ fn best_below(
         let at = strip;
         strip += 1;
         if cells::same_left(before, x) {} else {
-            let here = with_strip(strips, field, at);
-            so_far = best_below(field + 1, x, here, so_far, words, counts);
             before = x;
+            let found = best_below(field + 1, x, best.rank, words, counts);
+            if found.rank < best.rank {
+                best = with_strip(found, field, at);
+            }
         }
     }
-    so_far
+    best
 }
 
-// The strips with this one at a field.
-fn with_strip(strips: [usize; FIELDS], field: usize, strip: usize) -> [usize; FIELDS]
-    requires { ⌜ field < 4 ⌝ }
-    ensures { λ r. ⌜ r ≡ set strips field strip ⌝ }
+// A cell of this rank, of which no strip is known yet.
+fn last(rank: usize) -> Best
+    ensures { λ r. ⌜ (r .rank ≡ rank) × (drop 4 (r .strips) ≡ []) ⌝ }
 {
-    let mut out = strips;
-    out[field] = strip;
-    out
-}
-
-// The rank of a label: conflict comes first, then the rules in order, then what is unmet; good comes last.
-fn rank_of(label: Label) -> u32
-    ensures { λ r. ⌜ r ≡ rank 64 (labelOf label) ⌝ }
-{
-    match label {
-        Label::Good => GOOD,
-        Label::Conflict => 0,
-        Label::Wrong(number) => number,
-        Label::Unasked(number) => number,
-        Label::UnmetAccept => UNMET,
-        Label::UnmetDeny => UNMET,
+    Best {
+        rank,
+        strips: [0; FIELDS],
     }
+}
+
+// The cell with this strip at a field.
+fn with_strip(best: Best, field: usize, strip: usize) -> Best
+    requires { ⌜ field < 4 ⌝ }
+    ensures { λ r. ⌜ (r .rank ≡ best .rank) × (drop field (r .strips) ≡ strip ∷ drop (field + 1) (best .strips)) ⌝ }
+{
+    let mut strips = best.strips;
+    strips[field] = strip;
+    Best {
+        rank: best.rank,
+        strips,
+    }
+}
+
+// The rank of the label with this number: conflict comes first, then the rules in order, then what is unmet; good comes last.
+fn rank_of(label: u32) -> usize
+    ensures { λ r. ⌜ RankOf label r ⌝ }
+{
+    let kind = label % 8;
+    if kind == 0 {
+        return GOOD;
+    }
+    if kind == 1 {
+        return 0;
+    }
+    if kind < 4 {
+        return wide(label / 8);
+    }
+    UNMET
+}
+
+// The same number, wider.
+fn wide(x: u32) -> usize
+    ensures { λ r. ⌜ r ≡ x ⌝ }
+{
+    x as usize
 }

@@ -5,7 +5,7 @@ use Prim.Native.Nat.{ℕ, _+_, _-_, _*_, _^_, _≤_, _<_}
 use native.Mathlib.Omega.{arith}
 use lib.ListN.{length, getD, length-append, length-map}
 use Rattle.meaning.specs.Buffers as buffers
-use Rattle.meaning.specs.Labels.{Label, good, kind, rule}
+use Rattle.meaning.specs.Labels.{Label, kind, rule}
 use Rattle.meaning.specs.Listings.{Listed, widen}
 use Rattle.cells.specs.declared.Left.{Left}
 use Rattle.cells.specs.Cells.{Chart, Formed, step}
@@ -108,11 +108,6 @@ module _ (w : Chart) (places : List ℕ) (field : ℕ) (s : Left) (row buffer₀
         omega arith,
         eb ∙ ap (λ (b : List ℕ). rowAt buffer₀ total (kind l ∷ rule l ∷ b)) (ap (λ (j : ℕ). bounds j row) (sym four) ∙ sym (append-nil (bounds field row))),
       )
-
--- a kind that is not 0 is not of the label good
-pub not-good : (l : Label) (k : ℕ) → k ≡ kind l → ¬ (k ≡ 0) → ¬ (l ≡ good)
-unfolding kind
-not-good l k e n g = n (e ∙ ap kind g)
 
 -- the places of a run are as its row needs them
 pub placed-run : (w : Chart) (places : List ℕ) (field : ℕ) (s : Left) (count strip next : ℕ) → Placed (w .counts) places → count ≡ getD (w .counts) field 0

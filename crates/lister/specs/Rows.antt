@@ -10,6 +10,7 @@ use Rattle.meaning.specs.Blocks.{Span, Block}
 use Rattle.meaning.specs.Buffers as buffers
 use Rattle.meaning.specs.Labels.{Label, kind, rule}
 use Rattle.meaning.specs.Listings.{Listed}
+use Rattle.cells.specs.Cells.{labelNumber}
 
 -- the bounds of the first fields in a row, which come after its kind and rule
 abbrev pub bounds : ℕ → List ℕ → List ℕ
@@ -18,6 +19,10 @@ bounds field row = take (2 * field) (drop 2 row)
 -- the row with the kind and rule of a label
 unfoldable pub labelledRow : List ℕ → Label → List ℕ
 labelledRow row l = kind l ∷ rule l ∷ bounds 4 row
+
+-- r is the row with the kind and rule of the label with this number
+abbrev pub RowLabelled : List ℕ → ℕ → List ℕ → Type 0
+RowLabelled row number r = (l : Label) → number ≡ labelNumber l → r ≡ labelledRow row l
 
 -- r is the row with the bounds of a field behind those of the fields before
 pub record RowWith (row : List ℕ) (field : ℕ) (s : Span) (r : List ℕ) : Type 0 where

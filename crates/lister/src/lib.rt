@@ -5,16 +5,14 @@
 
 use blocks::Span;
 use cells::Left;
-use sets::Label;
 ghost use mathlib.Core.List.{List, [], _∷_, _++_, map};
 ghost use mathlib.Core.Path.{_≡_};
 ghost use Prim.Native.Nat.{ℕ, _+_, _-_, _*_, _^_, _≤_, _<_};
 ghost use lib.ListN.{length, getD};
 ghost use lib.Seq.{sets};
 ghost use Rattle.blocks.specs.Vocabulary.{spanOf};
-ghost use Rattle.sets.specs.Vocabulary.{labelOf};
 ghost use Rattle.cells.specs.Cells.{chart, Formed};
-ghost use Rattle.lister.specs.Rows.{bounds, labelledRow, RowWith, spanAt, rowOf, rowAt, rowsFrom};
+ghost use Rattle.lister.specs.Rows.{bounds, RowLabelled, RowWith, spanAt, rowOf, rowAt, rowsFrom};
 ghost use Rattle.lister.specs.Runs.{RunEnd, Placed, blocksBelow};
 
 // The numbers of a row: kind and rule, and two bounds for each field.
@@ -63,8 +61,8 @@ fn list_below(
         return total;
     }
     if field == cells::FIELDS {
-        let label = cells::label_of(left, words);
-        if label.kind() == 0 {
+        let label = cells::label_number(left.rules, left.directives, left.exceptions, words);
+        if label == 0 {
             return total;
         }
         write_row(labelled_row(row, label), total, buffer);
@@ -132,13 +130,13 @@ fn row_with(row: [u32; ROW], field: usize, span: Span) -> [u32; ROW]
     out
 }
 
-// The row with the kind and rule of a label.
-fn labelled_row(row: [u32; ROW], label: Label) -> [u32; ROW]
-    ensures { λ r. ⌜ r ≡ labelledRow row (labelOf label) ⌝ }
+// The row with the kind and rule of the label with this number.
+fn labelled_row(row: [u32; ROW], label: u32) -> [u32; ROW]
+    ensures { λ r. ⌜ RowLabelled row label r ⌝ }
 {
     let mut out = row;
-    out[0] = label.kind();
-    out[1] = label.rule();
+    out[0] = label % 8;
+    out[1] = label / 8;
     out
 }
 

@@ -16,7 +16,6 @@ use Rattle.cells.proofs.Comparing.{Compared, compared-end, compared-mor
 use Rattle.cells.proofs.Telling.{told-false, told-true}
 use Rattle.cells.proofs.alike.Kinds as alike-kinds
 use Rattle.cells.proofs.alike.Reads as alike
-use Rattle.cells.proofs.label_of.Reads as label-of-reads
 use Rattle.cells.proofs.left_at.Reads as left-at-reads
 use Rattle.cells.proofs.nothing_of.Reads as nothing-of-reads
 use Rattle.cells.proofs.same_label.Reads as same-label-reads
@@ -38,8 +37,6 @@ claims t = (
   same-left-reads.Learnt,
   nothing-of-reads.Asked,
   nothing-of-reads.Learnt,
-  label-of-reads.Asked,
-  label-of-reads.Learnt,
   same-label-reads.Asked,
   same-label-reads.Learnt,
   left-at-reads.Asked,
@@ -69,17 +66,11 @@ alike-nothing-of-requires t c κs = search needs
 alike-returns-2 : (t : ℕ) → alike-lts.Need-returns-2 (claims t) (alike-at t) alike.Post alike-Inv-loop alike-μ-loop
 alike-returns-2 t c = same-if-nothing _ _ _ _ (told-true (c .if2 .taken) (c .before .nothing-of .ensures))
 
-alike-label-of-requires : (t : ℕ) → alike-lts.Need-label-of-requires (claims t) (alike-at t) alike.Post alike-Inv-loop alike-μ-loop
-alike-label-of-requires t c κs = search needs
-
-alike-label-of-requires-2 : (t : ℕ) → alike-lts.Need-label-of-requires-2 (claims t) (alike-at t) alike.Post alike-Inv-loop alike-μ-loop
-alike-label-of-requires-2 t c κs = search needs
-
 alike-same-label-requires : (t : ℕ) → alike-lts.Need-same-label-requires (claims t) (alike-at t) alike.Post alike-Inv-loop alike-μ-loop
 alike-same-label-requires t c κs = search needs
 
 alike-returns-3 : (t : ℕ) → alike-lts.Need-returns-3 (claims t) (alike-at t) alike.Post alike-Inv-loop alike-μ-loop
-alike-returns-3 t c = told-last _ _ _ _ (c .same-label .result) _ _ (c .before .before .before .if3 .taken) (c .before .before .label-of .ensures) (c .before .label-of2 .ensures) (c .same-label .ensures)
+alike-returns-3 t c = told-last _ _ _ _ (c .same-label .result) (c .before .if3 .taken) (c .same-label .ensures)
 
 alike-mul-end : (t : ℕ) → alike-lts.Need-mul-end (claims t) (alike-at t) alike.Post alike-Inv-loop alike-μ-loop
 alike-mul-end t c = search needs
@@ -139,8 +130,6 @@ pub +alike-spec : {M : Type 1} → statement M
     (alike-returns t)
     (alike-nothing-of-requires t)
     (alike-returns-2 t)
-    (alike-label-of-requires t)
-    (alike-label-of-requires-2 t)
     (alike-same-label-requires t)
     (alike-returns-3 t)
     (alike-mul-end t)

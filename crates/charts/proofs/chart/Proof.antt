@@ -51,10 +51,10 @@ returns c =
       counted = blocks-put .ensures .0;
       numbers = _;
       numbered = blocks-put .ensures .1;
-      front = take 66 (front-put .last .1 .1 .0);
-      front-long = length-take-le 66 (front-put .last .1 .1 .0) (omega (arith, long, same-long));
+      front = take 68 (front-put .last .1 .1 .0);
+      front-long = length-take-le 68 (front-put .last .1 .1 .0) (omega (arith, long, same-long));
       masks = fields-put .last .1 .1 .1 .1 .0;
-      words-are = all-behind (front-put .last .1 .1 .0) (fields-put .last .1 .1 .1 .1 .0) 66;
+      words-are = all-behind (front-put .last .1 .1 .0) (fields-put .last .1 .1 .1 .1 .0) 68;
       front-words = front-put .ensures;
       each-field = fields-put .ensures;
     }

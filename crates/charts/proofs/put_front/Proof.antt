@@ -1,12 +1,14 @@
--- The two masks, and behind them the digits. Assumes nothing.
-use mathlib.Core.Path.{_∙_, ap, sym}
+-- The two masks, the exceptions of each directive, and of those that accept and that deny. Assumes nothing.
+use mathlib.Core.List.{List}
+use mathlib.Core.Path.{_∙_, _≡_, ap}
+use Prim.Native.Nat.{_+_, _≤_, ℕ}
 use native.Mathlib.Omega.{arith}
 use borrow.Author.Needs.{needs}
-use lib.ListN.{length, length-set}
+use lib.ListN.{getD, length, length-set, set}
 use lib.Seq.{length-sets}
 use Rattle.sets.proofs.Walks.{length-of-map}
-use Rattle.charts.proofs.Counted.{Full, directives-counted, exceptions-counted}
-use Rattle.charts.proofs.FrontWords.{front-is}
+use Rattle.charts.proofs.Counted.{Full, directives-counted}
+use Rattle.charts.proofs.FrontWords.{front-is, owner-word}
 use Rattle.charts.proofs.put_front.Statement.{statement}
 use Rattle.charts.proofs.put_front.Tie as tie
 
@@ -22,20 +24,29 @@ accepting-directives-requires c κs = search needs
 slice-write-words-2 : tie.Need-slice-write-words-2
 slice-write-words-2 c = search needs
 
-put-digits-requires : tie.Need-put-digits-requires
-put-digits-requires c κs = search needs
+put-owners-requires : tie.Need-put-owners-requires
+put-owners-requires c κs = search needs
+
+put-turning-requires : tie.Need-put-turning-requires
+put-turning-requires c κs =
+    let two = set (set (c .before .before .before .before .before .before .before .before .args .words .now) 0 (c .before .before .before .before .before .before .accepting-rules .result)) 1 (c .before .before .before .before .before .accepting-directives .result) in
+    let long : length two ≡ 3920 = simp (length-set, c .before .before .before .before .before .before .before .before .pre .1) in
+    let room : 4 + c .before .before .before .before .before .before .before .before .args .policy .«directive_count» ≤ length two = omega (arith, c .before .before .before .before .before .before .before .before .pre .0 .few-directives) in (
+      c .before .before .before .before .before .before .before .before .pre .0 .few-directives,
+      ap length (c .before .before .before .put-owners .ensures) ∙ simp (length-sets, length-set, c .before .before .before .before .before .before .before .before .pre .1),
+      λ t h. ap (λ (x : List ℕ). getD x (4 + t) 0) (c .before .before .before .put-owners .ensures) ∙ owner-word _ _ _ room t h,
+    )
 
 same-length : tie.Need-same-length
-same-length c = ap length (c .before .before .put-digits .ensures) ∙ simp (length-sets, length-set)
+same-length c = ap length (c .before .before .put-turning .ensures .put) ∙ simp (length-set, ap length (c .before .before .before .before .before .before .put-owners .ensures), length-sets)
 
 returns : tie.Need-returns
 returns c =
-    let args = c .before .before .before .before .before .before .before .args in
-    let pre = c .before .before .before .before .before .before .before .pre in
-    let full : Full (args .rules) (args .policy) = search (needs, length-of-map) in
-    front-is (args .words .now) _ _ _ _ _ _ _ (omega (arith, exceptions-counted (pre .0) full)) (omega arith) (sym (directives-counted (pre .0) full))
-    (c .before .before .put-digits .ensures) (c .before .before .before .before .before .accepting-rules .ensures)
-    (c .before .before .before .before .accepting-directives .ensures)
+    let turned = c .before .before .put-turning .ensures in
+    let full : Full (c .before .before .before .before .before .before .before .before .before .before .before .args .rules) (c .before .before .before .before .before .before .before .before .before .before .before .args .policy) = search (needs, length-of-map) in
+    front-is (c .before .before .before .before .before .before .before .before .before .before .before .args .words .now) _ _ _ _ _ _ _ _ _ (directives-counted (c .before .before .before .before .before .before .before .before .before .before .before .pre .0) full) (c .before .before .before .before .before .before .before .before .before .before .before .pre .0 .few-directives) (omega (arith, c .before .before .before .before .before .before .before .before .before .before .before .pre .1))
+    (turned .put ∙ ap (λ (x : List ℕ). set (set x 2 (turned .of-accepting)) 3 (turned .of-denying)) (c .before .before .before .before .before .before .put-owners .ensures))
+    (c .before .before .before .before .before .before .before .before .before .accepting-rules .ensures) (c .before .before .before .before .before .before .before .before .accepting-directives .ensures) (turned .are-accepting) (turned .are-denying)
 
 pub put-front-spec : {M : Type 1} → statement M
 put-front-spec =
@@ -45,6 +56,7 @@ put-front-spec =
     slice-write-words
     accepting-directives-requires
     slice-write-words-2
-    put-digits-requires
+    put-owners-requires
+    put-turning-requires
     same-length
     returns)

@@ -1,24 +1,26 @@
--- It walks strip by strip, down to the labels, and passes over what cannot be better.
-use mathlib.Core.Path.{refl}
+-- It walks strip by strip, down to the labels, and passes over what cannot be better. Assumes nothing.
+use mathlib.Core.Path.{_∙_, _≡_, ap, refl}
 use Prim.Native.Nat.{_+_, _-_, _<_, ℕ}
 use native.Mathlib.Omega.{arith}
 use borrow.Author.Needs.{needs}
 use borrow.Fn.Kinds.{In}
 use borrow.Fn.PlainCycle.{Measures, and, falls, is}
+use lib.ListN.{drop}
 use Rattle.cells.proofs.Telling.{told-true}
-use Rattle.cells.proofs.label_of.Reads as label-of-reads
+use Rattle.cells.proofs.label_number.Reads as label-number-reads
 use Rattle.cells.proofs.left_at.Reads as left-at-reads
 use Rattle.cells.proofs.nothing.Reads as nothing-reads
 use Rattle.cells.proofs.same_left.Reads as same-left-reads
 use Rattle.cells.specs.Cells.{chart}
-use Rattle.judge.proofs.+best_below.Lts-best_below as best-below-lts
-use Rattle.judge.proofs.+best_below.Tie.{close}
 use Rattle.judge.proofs.+best_below.{statement}
-use Rattle.judge.proofs.Walking.{Walked, found-last, kept-at-nothing, kept-at-zero, kept-last, walked-end, walked-more, walked-skip, walked-start}
+use Rattle.judge.proofs.Walking.{Walked, found-last, kept-at-nothing, kept-at-zero, kept-last, walked-end, walked-more, walked-past, walked-skip, walked-start}
 use Rattle.judge.proofs.best_below.Kinds as best-below-kinds
 use Rattle.judge.proofs.best_below.Reads as best-below
+use Rattle.judge.proofs.last.Reads as last-reads
 use Rattle.judge.proofs.rank_of.Reads as rank-of-reads
 use Rattle.judge.proofs.with_strip.Reads as with-strip-reads
+use Rattle.judge.proofs.+best_below.Lts-best_below as best-below-lts
+use Rattle.judge.proofs.+best_below.Tie.{close}
 
 abbrev μ-best-below : Measures 2 best-below-kinds.ps ℕ
 μ-best-below κs a = 4 - a .0
@@ -33,51 +35,65 @@ best-below-below t =
 
 abbrev claims : ℕ → best-below-lts.Claims
 claims t = (
+  last-reads.Asked,
+  last-reads.Learnt,
   nothing-reads.Asked,
   nothing-reads.Learnt,
-  label-of-reads.Asked,
-  label-of-reads.Learnt,
+  label-number-reads.Asked,
+  label-number-reads.Learnt,
   rank-of-reads.Asked,
   rank-of-reads.Learnt,
   left-at-reads.Asked,
   left-at-reads.Learnt,
   same-left-reads.Asked,
   same-left-reads.Learnt,
-  with-strip-reads.Asked,
-  with-strip-reads.Learnt,
   best-below-below t,
   best-below.Post,
+  with-strip-reads.Asked,
+  with-strip-reads.Learnt,
 )
 
 abbrev best-below-Inv-loop : best-below-lts.InvT-loop
-best-below-Inv-loop field left strips words counts end so-far₀ before₀ strip₀ so-far before strip =
-    Walked (chart words counts) field left strips so-far₀ end strip so-far before
+best-below-Inv-loop field left limit words counts end best₀ before₀ strip₀ best before strip = Walked (chart words counts) field left limit end strip best before
 
 abbrev best-below-μ-loop : best-below-lts.MeasureT-loop
-best-below-μ-loop field left strips words counts end so-far₀ before₀ strip₀ so-far before strip = end - strip
+best-below-μ-loop field left limit words counts end best₀ before₀ strip₀ best before strip = end - strip
+
+best-below-last-requires : (t : ℕ) → best-below-lts.Need-last-requires (claims t) (best-below-at t) best-below.Post best-below-Inv-loop best-below-μ-loop
+best-below-last-requires t c κs = search needs
 
 best-below-returns : (t : ℕ) → best-below-lts.Need-returns (claims t) (best-below-at t) best-below.Post best-below-Inv-loop best-below-μ-loop
-best-below-returns t c = kept-at-zero _ _ _ _ _ (c .if1 .taken)
+best-below-returns t c = kept-at-zero _ _ _ _ _ (c .last .ensures .0) (c .before .if1 .taken)
 
 best-below-nothing-requires : (t : ℕ) → best-below-lts.Need-nothing-requires (claims t) (best-below-at t) best-below.Post best-below-Inv-loop best-below-μ-loop
 best-below-nothing-requires t c κs = search needs
 
-best-below-returns-2 : (t : ℕ) → best-below-lts.Need-returns-2 (claims t) (best-below-at t) best-below.Post best-below-Inv-loop best-below-μ-loop
-best-below-returns-2 t c = kept-at-nothing _ _ _ _ _ (told-true (c .if2 .taken) (c .before .nothing .ensures)) (c .before .before .before .before .before .before .pre .1 .0 .2)
+best-below-last-requires-2 : (t : ℕ) → best-below-lts.Need-last-requires-2 (claims t) (best-below-at t) best-below.Post best-below-Inv-loop best-below-μ-loop
+best-below-last-requires-2 t c κs = search needs
 
-best-below-label-of-requires : (t : ℕ) → best-below-lts.Need-label-of-requires (claims t) (best-below-at t) best-below.Post best-below-Inv-loop best-below-μ-loop
-best-below-label-of-requires t c κs = search needs
+best-below-returns-2 : (t : ℕ) → best-below-lts.Need-returns-2 (claims t) (best-below-at t) best-below.Post best-below-Inv-loop best-below-μ-loop
+best-below-returns-2 t c = kept-at-nothing _ _ _ _ _ (c .last2 .ensures .0) (told-true (c .before .if2 .taken) (c .before .before .nothing .ensures)) (c .before .before .before .before .before .before .pre .1 .0 .2)
+
+best-below-label-number-requires : (t : ℕ) → best-below-lts.Need-label-number-requires (claims t) (best-below-at t) best-below.Post best-below-Inv-loop best-below-μ-loop
+best-below-label-number-requires t c κs = search needs
 
 best-below-rank-of-requires : (t : ℕ) → best-below-lts.Need-rank-of-requires (claims t) (best-below-at t) best-below.Post best-below-Inv-loop best-below-μ-loop
 best-below-rank-of-requires t c κs = search needs
 
+best-below-last-requires-3 : (t : ℕ) → best-below-lts.Need-last-requires-3 (claims t) (best-below-at t) best-below.Post best-below-Inv-loop best-below-μ-loop
+best-below-last-requires-3 t c κs = search needs
+
 best-below-returns-3 : (t : ℕ) → best-below-lts.Need-returns-3 (claims t) (best-below-at t) best-below.Post best-below-Inv-loop best-below-μ-loop
 best-below-returns-3 t c =
-    found-last _ _ _ _ _ _ _ (omega (arith, c .before .before .before .before .before .before .before .before .before .before .before .pre .1 .0, c .before .before .before .before .if3 .taken)) (c .before .before .before .label-of .ensures) (c .before .before .rank-of .ensures) (search needs) (c .if4 .taken)
+    let four : c .before .before .before .before .before .before .before .before .before .before .args .field ≡ 4 = omega (arith, c .before .before .before .before .before .before .before .before .before .before .pre .1 .0, c .before .before .before .before .if3 .taken) in
+    found-last _ _ _ _ _ _ _ (omega (arith, c .before .before .before .before .before .before .before .before .before .before .pre .1 .0, c .before .before .before .before .if3 .taken)) refl (c .before .before .rank-of .ensures _ (c .before .before .before .label-number .ensures))
+    (ap (λ (k : ℕ). drop k (c .last3 .result .strips)) four ∙ c .last3 .ensures .1) (c .last3 .ensures .0) (c .before .if4 .taken)
+
+best-below-last-requires-4 : (t : ℕ) → best-below-lts.Need-last-requires-4 (claims t) (best-below-at t) best-below.Post best-below-Inv-loop best-below-μ-loop
+best-below-last-requires-4 t c κs = search needs
 
 best-below-returns-4 : (t : ℕ) → best-below-lts.Need-returns-4 (claims t) (best-below-at t) best-below.Post best-below-Inv-loop best-below-μ-loop
-best-below-returns-4 t c =
-    kept-last _ _ _ _ _ _ _ (omega (arith, c .before .before .before .before .before .before .before .before .before .before .before .pre .1 .0, c .before .before .before .before .if3 .taken)) (c .before .before .before .label-of .ensures) (c .before .before .rank-of .ensures) (c .if4 .left)
+best-below-returns-4 t c = kept-last _ _ _ _ _ _ _ (omega (arith, c .before .before .before .before .before .before .before .before .before .before .pre .1 .0, c .before .before .before .before .if3 .taken)) refl (c .before .before .rank-of .ensures _ (c .before .before .before .label-number .ensures)) (c .last4 .ensures .0) (c .before .if4 .left)
 
 best-below-mul-end : (t : ℕ) → best-below-lts.Need-mul-end (claims t) (best-below-at t) best-below.Post best-below-Inv-loop best-below-μ-loop
 best-below-mul-end t c = search needs
@@ -85,10 +101,13 @@ best-below-mul-end t c = search needs
 best-below-shared-slice-read-end : (t : ℕ) → best-below-lts.Need-shared-slice-read-end (claims t) (best-below-at t) best-below.Post best-below-Inv-loop best-below-μ-loop
 best-below-shared-slice-read-end t c = search needs
 
+best-below-last-requires-5 : (t : ℕ) → best-below-lts.Need-last-requires-5 (claims t) (best-below-at t) best-below.Post best-below-Inv-loop best-below-μ-loop
+best-below-last-requires-5 t c κs = search needs
+
 best-below-loop-holds : (t : ℕ) → best-below-lts.Need-loop-holds (claims t) (best-below-at t) best-below.Post best-below-Inv-loop best-below-μ-loop
 best-below-loop-holds t c =
     let p = c .before .before .before .before .before .before .before .before .pre .1 in
-    walked-start _ _ _ _ _ _ _ (p .1) (omega (arith, p .0, c .before .if3 .left)) (search needs) refl (record { no-rule = refl; no-directive = refl; no-exception = refl }) (p .0 .2)
+    walked-start _ _ _ _ _ _ _ (p .1) (omega (arith, p .0, c .before .before .if3 .left)) refl (record { no-rule = refl; no-directive = refl; no-exception = refl }) (c .last5 .ensures .0) (p .0 .2)
 
 best-below-left-at-requires : (t : ℕ) → best-below-lts.Need-left-at-requires (claims t) (best-below-at t) best-below.Post best-below-Inv-loop best-below-μ-loop
 best-below-left-at-requires t c κs = search needs
@@ -103,29 +122,33 @@ best-below-loop-less : (t : ℕ) → best-below-lts.Need-loop-less (claims t) (b
 best-below-loop-less t c = search needs
 
 best-below-loop-again : (t : ℕ) → best-below-lts.Need-loop-again (claims t) (best-below-at t) best-below.Post best-below-Inv-loop best-below-μ-loop
-best-below-loop-again t c =
-    walked-skip _ _ _ _ _ _ _ _ _ (c .before .before .before .before .loop .inv) _ (c .before .before .before .loop-test .taken) (c .before .before .left-at .ensures) (told-true (c .if5 .taken) (c .before .same-left .ensures))
-
-best-below-with-strip-requires : (t : ℕ) → best-below-lts.Need-with-strip-requires (claims t) (best-below-at t) best-below.Post best-below-Inv-loop best-below-μ-loop
-best-below-with-strip-requires t c κs = search needs
+best-below-loop-again t c = walked-skip _ _ _ _ _ _ _ _ (c .before .before .before .before .loop .inv) (c .before .before .before .loop-test .taken) _ (c .before .before .left-at .ensures) (told-true (c .if5 .taken) (c .before .same-left .ensures))
 
 best-below-add-best-below : (t : ℕ) → best-below-lts.Need-add-best-below (claims t) (best-below-at t) best-below.Post best-below-Inv-loop best-below-μ-loop
 best-below-add-best-below t c = search needs
 
 best-below-best-below-requires : (t : ℕ) → best-below-lts.Need-best-below-requires (claims t) (best-below-at t) best-below.Post best-below-Inv-loop best-below-μ-loop
 best-below-best-below-requires t c κs =
-    let p = c .before .before .before .before .before .before .before .before .before .before .before .before .before .before .pre in
-    (omega (arith, p .0, p .1 .0, c .before .before .before .before .before .before .before .if3 .left), ((omega (arith, p .1 .0, c .before .before .before .before .before .before .before .if3 .left), p .1 .0 .1, c .before .before .before .before .before .loop .inv .low-rank), p .1 .1))
+    let p = c .before .before .before .before .before .before .before .before .before .before .before .before .before .pre in
+    (omega (arith, p .0, p .1 .0, c .before .before .before .before .before .before .before .if3 .left), ((omega (arith, p .1 .0, c .before .before .before .before .before .before .before .if3 .left), p .1 .0 .1, c .before .before .before .before .loop .inv .low-rank), p .1 .1))
+
+best-below-with-strip-requires : (t : ℕ) → best-below-lts.Need-with-strip-requires (claims t) (best-below-at t) best-below.Post best-below-Inv-loop best-below-μ-loop
+best-below-with-strip-requires t c κs = search needs
 
 best-below-loop-less-2 : (t : ℕ) → best-below-lts.Need-loop-less-2 (claims t) (best-below-at t) best-below.Post best-below-Inv-loop best-below-μ-loop
 best-below-loop-less-2 t c = search needs
 
 best-below-loop-again-2 : (t : ℕ) → best-below-lts.Need-loop-again-2 (claims t) (best-below-at t) best-below.Post best-below-Inv-loop best-below-μ-loop
-best-below-loop-again-2 t c =
-    walked-more _ _ _ _ _ _ _ _ _ (c .before .before .before .before .before .before .loop .inv) _ _ _ (c .before .before .before .before .before .loop-test .taken) (c .before .before .before .before .left-at .ensures) (c .before .with-strip .ensures) (c .best-below .ensures)
+best-below-loop-again-2 t c = walked-more _ _ _ _ _ _ _ _ (c .before .before .before .before .before .before .before .before .before .loop .inv) (c .before .before .before .before .before .before .before .before .loop-test .taken) _ (c .before .before .before .before .before .before .before .left-at .ensures) _ (c .before .before .before .before .best-below .ensures) _ (c .before .if6 .taken) (c .with-strip .ensures)
+
+best-below-loop-less-3 : (t : ℕ) → best-below-lts.Need-loop-less-3 (claims t) (best-below-at t) best-below.Post best-below-Inv-loop best-below-μ-loop
+best-below-loop-less-3 t c = search needs
+
+best-below-loop-again-3 : (t : ℕ) → best-below-lts.Need-loop-again-3 (claims t) (best-below-at t) best-below.Post best-below-Inv-loop best-below-μ-loop
+best-below-loop-again-3 t c = walked-past _ _ _ _ _ _ _ _ (c .before .before .before .before .before .before .before .before .loop .inv) (c .before .before .before .before .before .before .before .loop-test .taken) _ (c .before .before .before .before .before .before .left-at .ensures) _ (c .before .before .before .best-below .ensures) (c .if6 .left)
 
 best-below-returns-5 : (t : ℕ) → best-below-lts.Need-returns-5 (claims t) (best-below-at t) best-below.Post best-below-Inv-loop best-below-μ-loop
-best-below-returns-5 t c = walked-end _ _ _ _ _ _ _ _ _ (c .before .loop .inv) (c .loop-test .left)
+best-below-returns-5 t c = walked-end _ _ _ _ _ _ _ _ (c .before .loop .inv) (c .loop-test .left)
 
 pub +best-below-spec : {M : Type 1} → statement M
 +best-below-spec = close μ-best-below λ t. best-below-lts.spec (claims t)
@@ -133,24 +156,31 @@ pub +best-below-spec : {M : Type 1} → statement M
     best-below.Post
     best-below-Inv-loop
     best-below-μ-loop
+    (best-below-last-requires t)
     (best-below-returns t)
     (best-below-nothing-requires t)
+    (best-below-last-requires-2 t)
     (best-below-returns-2 t)
-    (best-below-label-of-requires t)
+    (best-below-label-number-requires t)
     (best-below-rank-of-requires t)
+    (best-below-last-requires-3 t)
     (best-below-returns-3 t)
+    (best-below-last-requires-4 t)
     (best-below-returns-4 t)
     (best-below-mul-end t)
     (best-below-shared-slice-read-end t)
+    (best-below-last-requires-5 t)
     (best-below-loop-holds t)
     (best-below-left-at-requires t)
     (best-below-add-strip t)
     (best-below-same-left-requires t)
     (best-below-loop-less t)
     (best-below-loop-again t)
-    (best-below-with-strip-requires t)
     (best-below-add-best-below t)
     (best-below-best-below-requires t)
+    (best-below-with-strip-requires t)
     (best-below-loop-less-2 t)
     (best-below-loop-again-2 t)
+    (best-below-loop-less-3 t)
+    (best-below-loop-again-3 t)
     (best-below-returns-5 t)

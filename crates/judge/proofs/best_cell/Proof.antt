@@ -1,5 +1,4 @@
--- The walk begins at the first field, with none so far.
-use mathlib.Core.Path.{refl}
+-- The walk begins at the first field; every rule's rank is below that of good. Assumes nothing.
 use borrow.Author.Needs.{needs}
 use Rattle.judge.proofs.Better.{better-is-best}
 use Rattle.judge.proofs.best_cell.Statement.{statement}
@@ -9,7 +8,7 @@ best-below-requires : tie.Need-best-below-requires
 best-below-requires c κs = search needs
 
 returns : tie.Need-returns
-returns c = better-is-best _ _ _ _ refl (c .best-below .ensures)
+returns c = better-is-best _ _ _ (c .best-below .ensures)
 
 pub best-cell-spec : {M : Type 1} → statement M
 best-cell-spec = tie.close (tie.spec best-below-requires returns)

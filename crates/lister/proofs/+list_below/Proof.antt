@@ -1,27 +1,23 @@
 -- It lists run by run, down to the labels.
 use mathlib.Core.List.{List}
-use mathlib.Core.Path.{_∙_, ap, refl, subst, sym}
+use mathlib.Core.Path.{_∙_, ap, refl, subst}
 use Prim.Native.Nat.{_+_, _-_, _<_, ℕ}
 use native.Mathlib.Omega.{arith}
 use borrow.Author.Needs.{needs}
 use borrow.Fn.Kinds.{In}
 use borrow.Fn.PlainCycle.{Measures, and, falls, is}
 use lib.ListN.{length}
+use Rattle.meaning.specs.Blocks.{Span}
+use Rattle.cells.proofs.LabelNumbers.{good-is-zero, zero-is-good}
 use Rattle.cells.proofs.Telling.{told-true}
-use Rattle.cells.proofs.label_of.Reads as label-of-reads
+use Rattle.cells.proofs.label_number.Reads as label-number-reads
 use Rattle.cells.proofs.left_at.Reads as left-at-reads
 use Rattle.cells.proofs.nothing.Reads as nothing-reads
 use Rattle.cells.specs.Cells.{chart}
-use Rattle.meaning.proofs.LabelKinds.{kind-zero}
-use Rattle.meaning.specs.Blocks.{Span}
-use Rattle.sets.proofs.Label.kind.Reads as kind-reads
-use Rattle.lister.specs.Rows.{RowWith, rowAt}
-use Rattle.lister.proofs.+list_below.Lts-list_below as list-below-lts
-use Rattle.lister.proofs.+list_below.Tie.{close}
 use Rattle.lister.proofs.+list_below.{statement}
 use Rattle.lister.proofs.Listing.{fault-listed, good-listed, nothing-listed}
 use Rattle.lister.proofs.RowLaws.{rows-length-kept}
-use Rattle.lister.proofs.Walking.{ToldTo, not-good, listing-end, listing-more, listing-room, listing-start, none-told, one-told, placed-run}
+use Rattle.lister.proofs.Walking.{ToldTo, listing-end, listing-more, listing-room, listing-start, none-told, one-told, placed-run}
 use Rattle.lister.proofs.labelled_row.Reads as labelled-row-reads
 use Rattle.lister.proofs.list_below.Kinds as list-below-kinds
 use Rattle.lister.proofs.list_below.Reads as list-below
@@ -29,6 +25,9 @@ use Rattle.lister.proofs.row_with.Reads as row-with-reads
 use Rattle.lister.proofs.run_end.Reads as run-end-reads
 use Rattle.lister.proofs.span_of.Reads as span-of-reads
 use Rattle.lister.proofs.write_row.Reads as write-row-reads
+use Rattle.lister.specs.Rows.{RowWith, rowAt}
+use Rattle.lister.proofs.+list_below.Lts-list_below as list-below-lts
+use Rattle.lister.proofs.+list_below.Tie.{close}
 
 abbrev μ-list-below : Measures 4 list-below-kinds.ps ℕ
 μ-list-below κs a = 4 - a .0
@@ -45,10 +44,8 @@ abbrev claims : ℕ → list-below-lts.Claims
 claims t = (
   nothing-reads.Asked,
   nothing-reads.Learnt,
-  label-of-reads.Asked,
-  label-of-reads.Learnt,
-  kind-reads.Asked,
-  kind-reads.Learnt,
+  label-number-reads.Asked,
+  label-number-reads.Learnt,
   labelled-row-reads.Asked,
   labelled-row-reads.Learnt,
   write-row-reads.Asked,
@@ -81,18 +78,15 @@ list-below-returns t c =
     none-told (chart (a .words .now) (a .counts .now)) (a .places .now) (a .field) (a .left) (a .row) (a .buffer .now) (a .total)
     (nothing-listed (chart (a .words .now) (a .counts .now)) (a .field) (a .left) (told-true (c .if1 .taken) (c .before .nothing .ensures)))
 
-list-below-label-of-requires : (t : ℕ) → list-below-lts.Need-label-of-requires (claims t) (list-below-at t) list-below.Post list-below-Inv-loop list-below-μ-loop
-list-below-label-of-requires t c κs = search needs
-
-list-below-kind-requires : (t : ℕ) → list-below-lts.Need-kind-requires (claims t) (list-below-at t) list-below.Post list-below-Inv-loop list-below-μ-loop
-list-below-kind-requires t c κs = search needs
+list-below-label-number-requires : (t : ℕ) → list-below-lts.Need-label-number-requires (claims t) (list-below-at t) list-below.Post list-below-Inv-loop list-below-μ-loop
+list-below-label-number-requires t c κs = search needs
 
 list-below-returns-2 : (t : ℕ) → list-below-lts.Need-returns-2 (claims t) (list-below-at t) list-below.Post list-below-Inv-loop list-below-μ-loop
 list-below-returns-2 t c =
-    let a = c .before .before .before .before .before .before .before .before .before .before .args in
+    let a = c .before .before .before .before .before .before .before .before .before .args in
     none-told (chart (a .words .now) (a .counts .now)) (a .places .now) (a .field) (a .left) (a .row) (a .buffer .now) (a .total)
-    (good-listed (chart (a .words .now) (a .counts .now)) (a .field) (a .left) (omega (arith, c .before .before .before .if2 .taken, c .before .before .before .before .before .before .before .before .before .before .pre .1 .0))
-    (sym (c .before .before .label-of .ensures) ∙ kind-zero _ (sym (c .before .kind .ensures) ∙ c .if3 .taken)))
+    (good-listed (chart (a .words .now) (a .counts .now)) (a .field) (a .left) (omega (arith, c .before .before .if2 .taken, c .before .before .before .before .before .before .before .before .before .pre .1 .0))
+    (zero-is-good _ _ (c .before .label-number .ensures) (c .if3 .taken)))
 
 list-below-labelled-row-requires : (t : ℕ) → list-below-lts.Need-labelled-row-requires (claims t) (list-below-at t) list-below.Post list-below-Inv-loop list-below-μ-loop
 list-below-labelled-row-requires t c κs = search needs
@@ -102,19 +96,19 @@ list-below-write-row-requires t c κs = search needs
 
 list-below-add-result : (t : ℕ) → list-below-lts.Need-add-result (claims t) (list-below-at t) list-below.Post list-below-Inv-loop list-below-μ-loop
 list-below-add-result t c =
-    let a = c .before .before .before .before .before .before .before .before .before .before .before .before .before .before .before .args in
-    let e = ap length (fault-listed (chart (a .words .now) (a .counts .now)) (a .field) (a .left) _ (omega (arith, c .before .before .before .before .before .before .before .before .if2 .taken, c .before .before .before .before .before .before .before .before .before .before .before .before .before .before .before .pre .1 .0)) (c .before .before .before .before .before .before .before .label-of .ensures) (not-good _ _ (c .before .before .before .before .before .before .kind .ensures) (c .before .before .before .before .before .if3 .left))) in
-    omega (arith, e, c .before .before .before .before .before .before .before .before .before .before .before .before .before .before .before .pre .1 .1 .1 .1)
+    let a = c .before .before .before .before .before .before .before .before .before .before .before .before .before .before .args in
+    let e = ap length (fault-listed (chart (a .words .now) (a .counts .now)) (a .field) (a .left) _ (omega (arith, c .before .before .before .before .before .before .before .if2 .taken, c .before .before .before .before .before .before .before .before .before .before .before .before .before .before .pre .1 .0)) refl (good-is-zero _ _ (c .before .before .before .before .before .before .label-number .ensures) (c .before .before .before .before .before .if3 .left))) in
+    omega (arith, e, c .before .before .before .before .before .before .before .before .before .before .before .before .before .before .pre .1 .1 .1 .1)
 
 list-below-same-length : (t : ℕ) → list-below-lts.Need-same-length (claims t) (list-below-at t) list-below.Post list-below-Inv-loop list-below-μ-loop
 list-below-same-length t c = search needs
 
 list-below-returns-3 : (t : ℕ) → list-below-lts.Need-returns-3 (claims t) (list-below-at t) list-below.Post list-below-Inv-loop list-below-μ-loop
 list-below-returns-3 t c =
-    let a = c .before .before .before .before .before .before .before .before .before .before .before .before .before .before .before .args in
-    one-told (chart (a .words .now) (a .counts .now)) (a .places .now) (a .field) (a .left) (a .row) (a .buffer .now) (a .total) _ _ (c .before .before .before .before .before .before .before .before .if2 .taken)
-    (fault-listed (chart (a .words .now) (a .counts .now)) (a .field) (a .left) _ (omega (arith, c .before .before .before .before .before .before .before .before .if2 .taken, c .before .before .before .before .before .before .before .before .before .before .before .before .before .before .before .pre .1 .0)) (c .before .before .before .before .before .before .before .label-of .ensures) (not-good _ _ (c .before .before .before .before .before .before .kind .ensures) (c .before .before .before .before .before .if3 .left)))
-    (c .before .before .write-row .ensures ∙ ap (λ (z : List ℕ). rowAt (a .buffer .now) (a .total) z) (c .before .before .before .before .labelled-row .ensures))
+    let a = c .before .before .before .before .before .before .before .before .before .before .before .before .before .before .args in
+    one-told (chart (a .words .now) (a .counts .now)) (a .places .now) (a .field) (a .left) (a .row) (a .buffer .now) (a .total) _ _ (c .before .before .before .before .before .before .before .if2 .taken)
+    (fault-listed (chart (a .words .now) (a .counts .now)) (a .field) (a .left) _ (omega (arith, c .before .before .before .before .before .before .before .if2 .taken, c .before .before .before .before .before .before .before .before .before .before .before .before .before .before .pre .1 .0)) refl (good-is-zero _ _ (c .before .before .before .before .before .before .label-number .ensures) (c .before .before .before .before .before .if3 .left)))
+    (c .before .before .write-row .ensures ∙ ap (λ (z : List ℕ). rowAt (a .buffer .now) (a .total) z) (c .before .before .before .before .labelled-row .ensures _ (c .before .before .before .before .before .before .label-number .ensures)))
 
 list-below-mul-end : (t : ℕ) → list-below-lts.Need-mul-end (claims t) (list-below-at t) list-below.Post list-below-Inv-loop list-below-μ-loop
 list-below-mul-end t c = search needs
@@ -181,8 +175,7 @@ pub +list-below-spec : {M : Type 1} → statement M
     list-below-μ-loop
     (list-below-nothing-requires t)
     (list-below-returns t)
-    (list-below-label-of-requires t)
-    (list-below-kind-requires t)
+    (list-below-label-number-requires t)
     (list-below-returns-2 t)
     (list-below-labelled-row-requires t)
     (list-below-write-row-requires t)
