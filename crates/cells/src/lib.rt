@@ -16,8 +16,20 @@ pub const MOST_STRIPS: usize = 2
     * (sets::MOST_RULES + sets::MOST_DIRECTIVES + sets::MOST_EXCEPTIONS)
     + 1;
 
-// Where the masks begin among the words of a walk.
-pub const FIRST_MASK: usize = 4 + 64;
+// Where stands what among the first words of a walk: which rules accept; which directives ask for accept; the exceptions of these
+// directives, and those of the others; from there on the exceptions of each directive, for as many as a mask has digits; and the
+// masks.
+pub const ACCEPTING_RULES: usize = 0;
+
+pub const ACCEPTING_DIRECTIVES: usize = 1;
+
+pub const OF_ACCEPTING: usize = 2;
+
+pub const OF_DENYING: usize = 3;
+
+pub const OF_EACH: usize = 4;
+
+pub const FIRST_MASK: usize = OF_EACH + 64;
 
 // The rules, directives and exceptions that are left, a binary digit for each.
 pub struct Left {
@@ -83,11 +95,11 @@ pub fn label_number(rules: u64, directives: u64, exceptions: u64, words: &[u64])
     requires { ⌜ 68 ≤ length (now words) ⌝ }
     ensures { λ r. ⌜ r ≡ labelNumber (leftLabel (now (words .entry)) (record { rules = rules; directives = directives; exceptions = exceptions })) ⌝ }
 {
-    let own = directives & words[1];
-    let accept = asked(exceptions, words[3], own, words);
-    let deny = asked(exceptions, words[2], directives ^ own, words);
+    let own = directives & words[ACCEPTING_DIRECTIVES];
+    let accept = asked(exceptions, words[OF_DENYING], own, words);
+    let deny = asked(exceptions, words[OF_ACCEPTING], directives ^ own, words);
     let first = u64::trailing_zeros(rules);
-    let accepting = u64::trailing_zeros(rules & words[0]);
+    let accepting = u64::trailing_zeros(rules & words[ACCEPTING_RULES]);
     let rule = 8 * (first + 1);
     if accept {
         if deny {
@@ -128,7 +140,7 @@ fn asked(exceptions: u64, turning: u64, own: u64, words: &[u64]) -> bool
     let mut rest = own;
     while rest != 0 {
         let first = wide(u64::trailing_zeros(rest));
-        if exceptions & words[4 + first] == 0 {
+        if exceptions & words[OF_EACH + first] == 0 {
             return true;
         }
         rest = rest & (rest - 1);

@@ -12,24 +12,21 @@ use sets::Rules;
 ghost use mathlib.Core.Bool.{cond};
 ghost use mathlib.Core.Path.{_≡_};
 ghost use Prim.Native.Nat.{_+_, _*_, _≤_};
-ghost use lib.ListN.{length, take};
 ghost use lib.Dec.{eqb};
+ghost use lib.ListN.{length, take};
 ghost use lib.Seq.{sets};
 ghost use Rattle.meaning.specs.Buffers.{bounds};
 ghost use Rattle.meaning.specs.Fields.{fields};
 ghost use Rattle.meaning.specs.Form.{Exception};
-ghost use Rattle.blocks.specs.Vocabulary.{blockOf};
-ghost use Rattle.sets.specs.Vocabulary.{actionOf};
 ghost use Rattle.meaning.specs.Rules.{accept, sameAction};
+ghost use Rattle.blocks.specs.Vocabulary.{blockOf};
+ghost use Rattle.sets.specs.Inner.{directivesOf, exceptionsOf};
+ghost use Rattle.sets.specs.Vocabulary.{actionOf};
 ghost use Rattle.cells.specs.Masks.{mask};
 ghost use Rattle.cells.specs.Words.{accepts, WordsOf};
-ghost use Rattle.strips.specs.Spans.{numbersOf};
-ghost use Rattle.charts.specs.Charted.{BlocksCounted, Limited, rulesOf, FieldsCharted, Charted};
-ghost use Rattle.sets.specs.Inner.{directivesOf, exceptionsOf};
-ghost use Rattle.charts.specs.Charted.{ruleBlocks, directiveBlocks, exceptionBlocks};
+ghost use Rattle.strips.specs.Spans.{numbersOf, InFront};
+ghost use Rattle.charts.specs.Charted.{Limited, rulesOf, ruleBlocks, directiveBlocks, exceptionBlocks, allBlocks, BlocksCounted, FieldsCharted, Charted};
 ghost use Rattle.charts.specs.Inner.{ownersOf, OwnersPut, TurningPut};
-ghost use Rattle.charts.specs.Charted.{allBlocks};
-ghost use Rattle.strips.specs.Spans.{InFront};
 
 // The numbers of a block: two bounds for each field.
 const BOUNDS: usize = 2 * FIELDS;
@@ -116,8 +113,8 @@ fn put_front(rules: Rules, policy: Policy, words: &mut [u64])
     requires { ⌜ length (now words) ≡ 3920 ⌝ }
     ensures { λ r. ⌜ WordsOf (rulesOf rules) (directivesOf policy) (exceptionsOf policy) (take 68 (now (words .exit))) ⌝ }
 {
-    words[0] = accepting_rules(rules);
-    words[1] = accepting_directives(policy);
+    words[cells::ACCEPTING_RULES] = accepting_rules(rules);
+    words[cells::ACCEPTING_DIRECTIVES] = accepting_directives(policy);
     put_owners(policy, words);
     put_turning(policy, words);
 }
@@ -231,14 +228,14 @@ fn accepting(action: Action) -> u64
     }
 }
 
-// Writes the exceptions of each directive, from word 4 on.
+// Writes the exceptions of each directive.
 fn put_owners(policy: Policy, words: &mut [u64])
     requires { ⌜ (policy .«directive_count» ≤ 32) × (policy .«exception_count» ≤ 64) × (length (now words) ≡ 3920) ⌝ }
     ensures { λ r. ⌜ now (words .exit) ≡ sets (now (words .entry)) 4 (ownersOf policy) ⌝ }
 {
     let mut i: usize = 0;
     while i < policy.directive_count {
-        words[4 + i] = exceptions_of(policy, i + 1);
+        words[cells::OF_EACH + i] = exceptions_of(policy, i + 1);
         i += 1;
     }
 }
@@ -268,7 +265,7 @@ fn named(directive: u32, number: usize) -> u64
     0
 }
 
-// Writes the exceptions of the directives that accept, and of those that deny, in words 2 and 3.
+// Writes the exceptions of the directives that accept, and of those that deny.
 fn put_turning(policy: Policy, words: &mut [u64])
     requires { ⌜ (policy .«directive_count» ≤ 32) × (length (now words) ≡ 3920) × OwnersPut policy (now words) ⌝ }
     ensures { λ r. ⌜ TurningPut policy (now (words .entry)) (now (words .exit)) ⌝ }
@@ -279,7 +276,7 @@ fn put_turning(policy: Policy, words: &mut [u64])
     while i < policy.directive_count {
         let directive = policy.directives[i];
         let action = directive.action;
-        let own = words[4 + i];
+        let own = words[cells::OF_EACH + i];
         i += 1;
         if accepting(action) == 1 {
             accept = accept | own;
@@ -287,6 +284,6 @@ fn put_turning(policy: Policy, words: &mut [u64])
             deny = deny | own;
         }
     }
-    words[2] = accept;
-    words[3] = deny;
+    words[cells::OF_ACCEPTING] = accept;
+    words[cells::OF_DENYING] = deny;
 }
