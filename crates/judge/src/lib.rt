@@ -40,21 +40,21 @@ fn best_below(field: usize, left: Left, limit: usize, words: &[u64], counts: &[u
     ensures { λ r. ⌜ BetterThan (below (chart (now (words .entry)) (now (counts .entry))) field) (cellRank (chart (now (words .entry)) (now (counts .entry))) field left) field limit r ⌝ }
 {
     if limit == 0 {
-        return last(limit);
+        return ranked(limit);
     }
     if cells::nothing(left) {
-        return last(limit);
+        return ranked(limit);
     }
     if field == FIELDS {
         let label = cells::label_number(left.rules, left.directives, left.exceptions, words);
         let rank = rank_of(label);
         if rank < limit {
-            return last(rank);
+            return ranked(rank);
         }
-        return last(limit);
+        return ranked(limit);
     }
     let end = counts[field];
-    let mut best = last(limit);
+    let mut best = ranked(limit);
     let mut before = Left {
         rules: 0,
         directives: 0,
@@ -77,7 +77,7 @@ fn best_below(field: usize, left: Left, limit: usize, words: &[u64], counts: &[u
 }
 
 // A cell of this rank, of which no strip is known yet.
-fn last(rank: usize) -> Best
+fn ranked(rank: usize) -> Best
     ensures { λ r. ⌜ (r .rank ≡ rank) × (drop 4 (r .strips) ≡ []) ⌝ }
 {
     Best {

@@ -16,8 +16,8 @@ use Rattle.judge.proofs.+best_below.{statement}
 use Rattle.judge.proofs.Walking.{Walked, found-last, kept-at-nothing, kept-at-zero, kept-last, walked-end, walked-more, walked-past, walked-skip, walked-start}
 use Rattle.judge.proofs.best_below.Kinds as best-below-kinds
 use Rattle.judge.proofs.best_below.Reads as best-below
-use Rattle.judge.proofs.last.Reads as last-reads
 use Rattle.judge.proofs.rank_of.Reads as rank-of-reads
+use Rattle.judge.proofs.ranked.Reads as ranked-reads
 use Rattle.judge.proofs.with_strip.Reads as with-strip-reads
 use Rattle.judge.proofs.+best_below.Lts-best_below as best-below-lts
 use Rattle.judge.proofs.+best_below.Tie.{close}
@@ -35,8 +35,8 @@ best-below-below t =
 
 abbrev claims : ℕ → best-below-lts.Claims
 claims t = (
-  last-reads.Asked,
-  last-reads.Learnt,
+  ranked-reads.Asked,
+  ranked-reads.Learnt,
   nothing-reads.Asked,
   nothing-reads.Learnt,
   label-number-reads.Asked,
@@ -59,20 +59,20 @@ best-below-Inv-loop field left limit words counts end best₀ before₀ strip₀
 abbrev best-below-μ-loop : best-below-lts.MeasureT-loop
 best-below-μ-loop field left limit words counts end best₀ before₀ strip₀ best before strip = end - strip
 
-best-below-last-requires : (t : ℕ) → best-below-lts.Need-last-requires (claims t) (best-below-at t) best-below.Post best-below-Inv-loop best-below-μ-loop
-best-below-last-requires t c κs = search needs
+best-below-ranked-requires : (t : ℕ) → best-below-lts.Need-ranked-requires (claims t) (best-below-at t) best-below.Post best-below-Inv-loop best-below-μ-loop
+best-below-ranked-requires t c κs = search needs
 
 best-below-returns : (t : ℕ) → best-below-lts.Need-returns (claims t) (best-below-at t) best-below.Post best-below-Inv-loop best-below-μ-loop
-best-below-returns t c = kept-at-zero _ _ _ _ _ (c .last .ensures .0) (c .before .if1 .taken)
+best-below-returns t c = kept-at-zero _ _ _ _ _ (c .ranked .ensures .0) (c .before .if1 .taken)
 
 best-below-nothing-requires : (t : ℕ) → best-below-lts.Need-nothing-requires (claims t) (best-below-at t) best-below.Post best-below-Inv-loop best-below-μ-loop
 best-below-nothing-requires t c κs = search needs
 
-best-below-last-requires-2 : (t : ℕ) → best-below-lts.Need-last-requires-2 (claims t) (best-below-at t) best-below.Post best-below-Inv-loop best-below-μ-loop
-best-below-last-requires-2 t c κs = search needs
+best-below-ranked-requires-2 : (t : ℕ) → best-below-lts.Need-ranked-requires-2 (claims t) (best-below-at t) best-below.Post best-below-Inv-loop best-below-μ-loop
+best-below-ranked-requires-2 t c κs = search needs
 
 best-below-returns-2 : (t : ℕ) → best-below-lts.Need-returns-2 (claims t) (best-below-at t) best-below.Post best-below-Inv-loop best-below-μ-loop
-best-below-returns-2 t c = kept-at-nothing _ _ _ _ _ (c .last2 .ensures .0) (told-true (c .before .if2 .taken) (c .before .before .nothing .ensures)) (c .before .before .before .before .before .before .pre .1 .0 .2)
+best-below-returns-2 t c = kept-at-nothing _ _ _ _ _ (c .ranked2 .ensures .0) (told-true (c .before .if2 .taken) (c .before .before .nothing .ensures)) (c .before .before .before .before .before .before .pre .1 .0 .2)
 
 best-below-label-number-requires : (t : ℕ) → best-below-lts.Need-label-number-requires (claims t) (best-below-at t) best-below.Post best-below-Inv-loop best-below-μ-loop
 best-below-label-number-requires t c κs = search needs
@@ -80,20 +80,20 @@ best-below-label-number-requires t c κs = search needs
 best-below-rank-of-requires : (t : ℕ) → best-below-lts.Need-rank-of-requires (claims t) (best-below-at t) best-below.Post best-below-Inv-loop best-below-μ-loop
 best-below-rank-of-requires t c κs = search needs
 
-best-below-last-requires-3 : (t : ℕ) → best-below-lts.Need-last-requires-3 (claims t) (best-below-at t) best-below.Post best-below-Inv-loop best-below-μ-loop
-best-below-last-requires-3 t c κs = search needs
+best-below-ranked-requires-3 : (t : ℕ) → best-below-lts.Need-ranked-requires-3 (claims t) (best-below-at t) best-below.Post best-below-Inv-loop best-below-μ-loop
+best-below-ranked-requires-3 t c κs = search needs
 
 best-below-returns-3 : (t : ℕ) → best-below-lts.Need-returns-3 (claims t) (best-below-at t) best-below.Post best-below-Inv-loop best-below-μ-loop
 best-below-returns-3 t c =
     let four : c .before .before .before .before .before .before .before .before .before .before .args .field ≡ 4 = omega (arith, c .before .before .before .before .before .before .before .before .before .before .pre .1 .0, c .before .before .before .before .if3 .taken) in
     found-last _ _ _ _ _ _ _ (omega (arith, c .before .before .before .before .before .before .before .before .before .before .pre .1 .0, c .before .before .before .before .if3 .taken)) refl (c .before .before .rank-of .ensures _ (c .before .before .before .label-number .ensures))
-    (ap (λ (k : ℕ). drop k (c .last3 .result .strips)) four ∙ c .last3 .ensures .1) (c .last3 .ensures .0) (c .before .if4 .taken)
+    (ap (λ (k : ℕ). drop k (c .ranked3 .result .strips)) four ∙ c .ranked3 .ensures .1) (c .ranked3 .ensures .0) (c .before .if4 .taken)
 
-best-below-last-requires-4 : (t : ℕ) → best-below-lts.Need-last-requires-4 (claims t) (best-below-at t) best-below.Post best-below-Inv-loop best-below-μ-loop
-best-below-last-requires-4 t c κs = search needs
+best-below-ranked-requires-4 : (t : ℕ) → best-below-lts.Need-ranked-requires-4 (claims t) (best-below-at t) best-below.Post best-below-Inv-loop best-below-μ-loop
+best-below-ranked-requires-4 t c κs = search needs
 
 best-below-returns-4 : (t : ℕ) → best-below-lts.Need-returns-4 (claims t) (best-below-at t) best-below.Post best-below-Inv-loop best-below-μ-loop
-best-below-returns-4 t c = kept-last _ _ _ _ _ _ _ (omega (arith, c .before .before .before .before .before .before .before .before .before .before .pre .1 .0, c .before .before .before .before .if3 .taken)) refl (c .before .before .rank-of .ensures _ (c .before .before .before .label-number .ensures)) (c .last4 .ensures .0) (c .before .if4 .left)
+best-below-returns-4 t c = kept-last _ _ _ _ _ _ _ (omega (arith, c .before .before .before .before .before .before .before .before .before .before .pre .1 .0, c .before .before .before .before .if3 .taken)) refl (c .before .before .rank-of .ensures _ (c .before .before .before .label-number .ensures)) (c .ranked4 .ensures .0) (c .before .if4 .left)
 
 best-below-mul-end : (t : ℕ) → best-below-lts.Need-mul-end (claims t) (best-below-at t) best-below.Post best-below-Inv-loop best-below-μ-loop
 best-below-mul-end t c = search needs
@@ -101,13 +101,13 @@ best-below-mul-end t c = search needs
 best-below-shared-slice-read-end : (t : ℕ) → best-below-lts.Need-shared-slice-read-end (claims t) (best-below-at t) best-below.Post best-below-Inv-loop best-below-μ-loop
 best-below-shared-slice-read-end t c = search needs
 
-best-below-last-requires-5 : (t : ℕ) → best-below-lts.Need-last-requires-5 (claims t) (best-below-at t) best-below.Post best-below-Inv-loop best-below-μ-loop
-best-below-last-requires-5 t c κs = search needs
+best-below-ranked-requires-5 : (t : ℕ) → best-below-lts.Need-ranked-requires-5 (claims t) (best-below-at t) best-below.Post best-below-Inv-loop best-below-μ-loop
+best-below-ranked-requires-5 t c κs = search needs
 
 best-below-loop-holds : (t : ℕ) → best-below-lts.Need-loop-holds (claims t) (best-below-at t) best-below.Post best-below-Inv-loop best-below-μ-loop
 best-below-loop-holds t c =
     let p = c .before .before .before .before .before .before .before .before .pre .1 in
-    walked-start _ _ _ _ _ _ _ (p .1) (omega (arith, p .0, c .before .before .if3 .left)) refl (record { no-rule = refl; no-directive = refl; no-exception = refl }) (c .last5 .ensures .0) (p .0 .2)
+    walked-start _ _ _ _ _ _ _ (p .1) (omega (arith, p .0, c .before .before .if3 .left)) refl (record { no-rule = refl; no-directive = refl; no-exception = refl }) (c .ranked5 .ensures .0) (p .0 .2)
 
 best-below-left-at-requires : (t : ℕ) → best-below-lts.Need-left-at-requires (claims t) (best-below-at t) best-below.Post best-below-Inv-loop best-below-μ-loop
 best-below-left-at-requires t c κs = search needs
@@ -156,20 +156,20 @@ pub +best-below-spec : {M : Type 1} → statement M
     best-below.Post
     best-below-Inv-loop
     best-below-μ-loop
-    (best-below-last-requires t)
+    (best-below-ranked-requires t)
     (best-below-returns t)
     (best-below-nothing-requires t)
-    (best-below-last-requires-2 t)
+    (best-below-ranked-requires-2 t)
     (best-below-returns-2 t)
     (best-below-label-number-requires t)
     (best-below-rank-of-requires t)
-    (best-below-last-requires-3 t)
+    (best-below-ranked-requires-3 t)
     (best-below-returns-3 t)
-    (best-below-last-requires-4 t)
+    (best-below-ranked-requires-4 t)
     (best-below-returns-4 t)
     (best-below-mul-end t)
     (best-below-shared-slice-read-end t)
-    (best-below-last-requires-5 t)
+    (best-below-ranked-requires-5 t)
     (best-below-loop-holds t)
     (best-below-left-at-requires t)
     (best-below-add-strip t)
