@@ -16,6 +16,9 @@ pub const MOST_STRIPS: usize = 2
     * (sets::MOST_RULES + sets::MOST_DIRECTIVES + sets::MOST_EXCEPTIONS)
     + 1;
 
+// The places of a field: where each strip begins, and the size.
+pub const FIELD_PLACES: usize = MOST_STRIPS + 1;
+
 // Where stands what among the first words of a walk: which rules accept; which directives ask for accept; the exceptions of these
 // directives, and those of the others; from there on the exceptions of each directive, for as many as a mask has digits; and the
 // masks.

@@ -3,6 +3,7 @@
 // The contract of `chart` says that the lent arrays are filled as `specs/Charted` says.
 
 use blocks::Block;
+use cells::FIELD_PLACES;
 use cells::FIELDS;
 use cells::FIRST_MASK;
 use cells::MOST_STRIPS;
@@ -34,10 +35,8 @@ const BOUNDS: usize = 2 * FIELDS;
 // The numbers of all blocks.
 const NUMBERS: usize = BOUNDS * (sets::MOST_RULES + sets::MOST_DIRECTIVES + sets::MOST_EXCEPTIONS);
 
-// The masks of a field, three for each strip, and its places: where each strip begins, and the size.
+// The masks of a field, three for each strip.
 const FIELD_MASKS: usize = 3 * MOST_STRIPS;
-
-const FIELD_PLACES: usize = MOST_STRIPS + 1;
 
 // The words and the places of a chart.
 pub const WORDS: usize = FIRST_MASK + FIELDS * FIELD_MASKS;

@@ -4,6 +4,7 @@
 // `charts` fills arrays of 47 KB on the stack, and `judge` and `lister` walk over them. No set is copied in a walk.
 
 use blocks::Packet;
+use cells::FIELD_PLACES;
 use cells::Left;
 use sets::Action;
 use sets::Label;
@@ -32,8 +33,12 @@ pub struct Listed {
     pub total: u64,
 }
 
-// The rank of the label good.
-const GOOD: usize = 66;
+// Where the places of a field begin, behind those of the fields before.
+const DESTINATIONS: usize = FIELD_PLACES;
+
+const PROTOCOLS: usize = 2 * FIELD_PLACES;
+
+const PORTS: usize = 3 * FIELD_PLACES;
 
 // All rules, directives and exceptions.
 const EVERYTHING: Left = Left {
@@ -83,7 +88,7 @@ fn judge_sets(rules: Rules, policy: Policy) -> Judged
     let mut places = [0u64; charts::PLACES];
     charts::chart(rules, policy, &mut words, &mut counts, &mut places);
     let best = judge::best_cell(EVERYTHING, &words, &counts);
-    if best.rank == GOOD {
+    if best.rank == judge::GOOD {
         return Judged {
             refusal: Refusal::NONE,
             label: Label::Good,
@@ -114,16 +119,16 @@ fn verdict_at(rules: Rules, policy: Policy, packet: Packet) -> Judged
 }
 
 // The low corner of a cell.
-fn corner(strips: [usize; 4], places: &[u64]) -> Packet
+fn corner(strips: [usize; cells::FIELDS], places: &[u64]) -> Packet
     requires { ⌜ length (now places) ≡ 1288 ⌝ }
     requires { ⌜ CornerPlaced (now places) strips ⌝ }
     ensures { λ r. ⌜ packetOf r ≡ cornerAt (now (places .entry)) strips ⌝ }
 {
     Packet {
         source: places[strips[0]] as u32,
-        destination: places[322 + strips[1]] as u32,
-        protocol: places[644 + strips[2]] as u32,
-        port: places[966 + strips[3]] as u32,
+        destination: places[DESTINATIONS + strips[1]] as u32,
+        protocol: places[PROTOCOLS + strips[2]] as u32,
+        port: places[PORTS + strips[3]] as u32,
     }
 }
 

@@ -15,7 +15,7 @@ ghost use Rattle.judge.specs.Ranks.{RankOf, cellRank, BetterThan, BestOf
 const UNMET: usize = sets::MOST_RULES + 1;
 
 // The rank of a good label, which comes last.
-const GOOD: usize = UNMET + 1;
+pub const GOOD: usize = UNMET + 1;
 
 // A cell: the rank of its label, and its strip in each field. There is none if the rank is 66.
 pub struct Best {

@@ -4,6 +4,7 @@
 // its bounds.
 
 use blocks::Span;
+use cells::FIELD_PLACES;
 use cells::Left;
 ghost use mathlib.Core.List.{List, [], _∷_, _++_, map};
 ghost use mathlib.Core.Path.{_≡_};
@@ -17,9 +18,6 @@ ghost use Rattle.lister.specs.Runs.{RunEnd, Placed, blocksBelow};
 
 // The numbers of a row: kind and rule, and two bounds for each field.
 const ROW: usize = 2 + 2 * cells::FIELDS;
-
-// The places of a field: where each strip begins, and the size.
-const FIELD_PLACES: usize = cells::MOST_STRIPS + 1;
 
 // How many blocks the listing has where all of the sets are left; the first of them are written.
 pub fn list_cells(
