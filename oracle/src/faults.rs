@@ -18,7 +18,7 @@ use crate::model::{
 pub const NUMBERS: usize = 2 + 2 * FIELDS;
 
 /// More cells than any test has; a table of more would take too long.
-const MOST_CELLS: usize = 400_000;
+pub const MOST_CELLS: usize = 400_000;
 
 /// What the verdict tells: the label of its packet, the lowest directives that ask
 /// for accept and for deny there, or 0, and the packet. All zeros for conforms.
@@ -76,6 +76,12 @@ impl Faults {
         }
         self.listing.len() as u64
     }
+}
+
+/// How many cells the table of labels of sets in form has.
+pub fn cells(rules: &RuleSet, policy: &PolicySet) -> usize {
+    let starts = starts(&blocks(rules, policy));
+    starts.iter().map(Vec::len).product()
 }
 
 struct Table {

@@ -8,15 +8,23 @@
 //!
 //!     oracle texts-requests > requests.bytes
 //!     oracle texts-answers < requests.bytes
+//!
+//! It is a program of its own too, with the output of document 01's "One whole run" for
+//! the files rules.txt and policy.txt of a folder:
+//!
+//!     oracle run DIR
 
 mod cases;
 mod faults;
 mod model;
+mod printing;
 mod random;
 mod requests;
+mod run;
 mod texts;
 
 use std::io::{self, Read, Write};
+use std::path::Path;
 use std::process::ExitCode;
 
 fn main() -> ExitCode {
@@ -27,8 +35,11 @@ fn main() -> ExitCode {
         ["answers"] => answer(),
         ["texts-requests"] => tell(&cases::texts::requests()),
         ["texts-answers"] => answer_texts(),
+        ["run", folder] => answer_files(folder),
         _ => {
-            eprintln!("usage: oracle requests | answers | texts-requests | texts-answers");
+            eprintln!(
+                "usage: oracle requests | answers | texts-requests | texts-answers | run DIR"
+            );
             return ExitCode::from(2);
         }
     };
@@ -51,6 +62,16 @@ fn answer_texts() -> io::Result<()> {
     let mut bytes = vec![];
     io::stdin().read_to_end(&mut bytes)?;
     tell(&texts::requests::answers(&bytes))
+}
+
+fn answer_files(folder: &str) -> io::Result<()> {
+    match run::run(Path::new(folder)) {
+        Ok(printed) => tell(printed.as_bytes()),
+        Err(run::TooManyCells(cells)) => Err(io::Error::other(format!(
+            "{cells} cells, and this program takes {} at most",
+            faults::MOST_CELLS
+        ))),
+    }
 }
 
 fn tell(answers: &[u8]) -> io::Result<()> {

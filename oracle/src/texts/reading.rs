@@ -7,7 +7,7 @@ use crate::model::{
     MOST_EXCEPTIONS, MOST_RULES,
 };
 
-const MOST_BYTES: usize = 32_768;
+pub const MOST_BYTES: usize = 32_768;
 
 pub fn rules(text: &[u8]) -> Result<RuleSet, Refusal> {
     let mut rules = vec![];
