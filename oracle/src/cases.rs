@@ -1,7 +1,7 @@
 //! The test requests: fixed cases first, then drawn ones with a fixed seed.
 
 mod blocks;
-mod faults;
+pub mod faults;
 pub mod labels;
 mod limits;
 pub mod texts;

@@ -13,10 +13,18 @@
 //! the files rules.txt and policy.txt of a folder:
 //!
 //!     oracle run DIR
+//!
+//! And it compares a program, given by the words of its command, with itself on drawn
+//! pairs of such files. A drawn pair can be had again by its number and seed:
+//!
+//!     oracle compare COUNT SEED WORD...
+//!     oracle pair NUMBER SEED DIR
 
 mod cases;
+mod compare;
 mod faults;
 mod model;
+mod pairs;
 mod printing;
 mod random;
 mod requests;
@@ -27,29 +35,46 @@ use std::io::{self, Read, Write};
 use std::path::Path;
 use std::process::ExitCode;
 
+const USAGE: &str = "usage: oracle requests | answers | texts-requests | texts-answers
+       oracle run DIR
+       oracle compare COUNT SEED WORD...
+       oracle pair NUMBER SEED DIR";
+
 fn main() -> ExitCode {
     let words: Vec<String> = std::env::args().skip(1).collect();
     let words: Vec<&str> = words.iter().map(String::as_str).collect();
-    let done = match words[..] {
+    match done(&words) {
+        Some(Ok(true)) => ExitCode::SUCCESS,
+        Some(Ok(false)) => ExitCode::FAILURE,
+        Some(Err(error)) => {
+            eprintln!("oracle: {error}");
+            ExitCode::FAILURE
+        }
+        None => {
+            eprintln!("{USAGE}");
+            ExitCode::from(2)
+        }
+    }
+}
+
+/// Whether what the words ask for went well, or none if they ask for nothing known.
+fn done(words: &[&str]) -> Option<io::Result<bool>> {
+    let told = match words {
         ["requests"] => tell(cases::requests().as_bytes()),
         ["answers"] => answer(),
         ["texts-requests"] => tell(&cases::texts::requests()),
         ["texts-answers"] => answer_texts(),
         ["run", folder] => answer_files(folder),
-        _ => {
-            eprintln!(
-                "usage: oracle requests | answers | texts-requests | texts-answers | run DIR"
-            );
-            return ExitCode::from(2);
+        ["pair", number, seed, folder] => {
+            compare::write(number.parse().ok()?, seed.parse().ok()?, Path::new(folder))
         }
+        ["compare", count, seed, command @ ..] if !command.is_empty() => {
+            let (count, seed) = (count.parse().ok()?, seed.parse().ok()?);
+            return Some(compare::compare(count, seed, command));
+        }
+        _ => return None,
     };
-    match done {
-        Ok(()) => ExitCode::SUCCESS,
-        Err(error) => {
-            eprintln!("oracle: {error}");
-            ExitCode::FAILURE
-        }
-    }
+    Some(told.map(|()| true))
 }
 
 fn answer() -> io::Result<()> {

@@ -10,6 +10,12 @@ impl Random {
         Random { state: seed }
     }
 
+    /// One of the generators of a seed, which has one for each number.
+    pub fn numbered(seed: u64, number: u64) -> Random {
+        let mixed = Random::new(seed).next();
+        Random::new(Random::new(mixed ^ number).next())
+    }
+
     fn next(&mut self) -> u64 {
         self.state = self.state.wrapping_add(0x9E37_79B9_7F4A_7C15);
         let mut mixed = self.state;

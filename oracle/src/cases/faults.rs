@@ -1,9 +1,9 @@
 //! Verdicts and listings: named cases first, each with its answers by document 01,
 //! then full sets, then drawn pairs of sets with a fixed seed.
 
-mod drawn;
-mod full;
-mod gateways;
+pub mod drawn;
+pub mod full;
+pub mod gateways;
 mod named;
 mod paper;
 #[cfg(test)]
@@ -13,7 +13,7 @@ use super::*;
 use crate::faults::Faults;
 use crate::model::Bounds;
 
-type Sets = (RuleSet, PolicySet);
+pub type Sets = (RuleSet, PolicySet);
 
 const SEED: u64 = 5_031;
 

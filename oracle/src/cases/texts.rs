@@ -6,7 +6,7 @@
 
 mod addresses;
 mod counts;
-mod drawn;
+pub mod drawn;
 mod exceptions;
 mod fields;
 mod lines;

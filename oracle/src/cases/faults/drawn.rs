@@ -68,27 +68,27 @@ pub fn pairs(random: &mut Random) -> Pairs {
 }
 
 /// Sets of one shape, with fewer rules, directives and exceptions than told.
-fn few(random: &mut Random, shape: Shape, ends: [usize; 3]) -> Sets {
+pub fn few(random: &mut Random, shape: Shape, ends: [usize; 3]) -> Sets {
     let [rules, directives, exceptions] = ends.map(|end| random.below(end));
     random_sets(random, shape, rules, directives, exceptions)
 }
 
 /// Bounds among the lowest three numbers of a field and its largest three.
-fn both_ends(random: &mut Random, field: usize) -> Bounds {
+pub fn both_ends(random: &mut Random, field: usize) -> Bounds {
     let largest = LARGEST[field];
     let numbers = [0, 0, 1, 2, largest - 2, largest - 1, largest, largest];
     let (one, other) = (random.pick(&numbers), random.pick(&numbers));
     Bounds::new(one.min(other), one.max(other))
 }
 
-fn anywhere(random: &mut Random, field: usize) -> Bounds {
+pub fn anywhere(random: &mut Random, field: usize) -> Bounds {
     let one = random.between(0, LARGEST[field]);
     let other = random.between(0, LARGEST[field]);
     Bounds::new(one.min(other), one.max(other))
 }
 
 /// One of a few numbers, many of them neighbours.
-fn one_number(random: &mut Random, field: usize) -> Bounds {
+pub fn one_number(random: &mut Random, field: usize) -> Bounds {
     let largest = LARGEST[field];
     let number = random.pick(&[0, 1, 2, 2, 3, largest / 2, largest - 1, largest]);
     Bounds::new(number, number)
@@ -116,7 +116,7 @@ fn sets_of(random: &mut Random, mut block: impl FnMut(&mut Random) -> Block) -> 
 }
 
 /// Tiny blocks that go on to the largest number in one field.
-fn one_top(random: &mut Random) -> Sets {
+pub fn one_top(random: &mut Random) -> Sets {
     sets_of(random, |random| {
         let mut block = random_block(random, corner);
         let field = random.below(FIELDS);
@@ -126,7 +126,7 @@ fn one_top(random: &mut Random) -> Sets {
 }
 
 /// All blocks of rules and directives are among three.
-fn same_blocks(random: &mut Random) -> Sets {
+pub fn same_blocks(random: &mut Random) -> Sets {
     let shape = random.pick(&[corner as Shape, both_ends, network]);
     let blocks: Vec<Block> = (0..3).map(|_| random_block(random, shape)).collect();
     sets_of(random, |random| random.pick(&blocks))
@@ -134,7 +134,7 @@ fn same_blocks(random: &mut Random) -> Sets {
 
 /// Each block inside the one before; the rules from the innermost, from the
 /// outermost or in no order.
-fn onion(random: &mut Random) -> Sets {
+pub fn onion(random: &mut Random) -> Sets {
     let drawn = random_block(random, network);
     let mut block = random.pick(&[Block::WIDEST, drawn]);
     let mut blocks = vec![];
@@ -170,7 +170,7 @@ fn onion(random: &mut Random) -> Sets {
 
 /// Rules and directives that lie side by side in one field, without a gap or with
 /// a small one, and have one of two bounds in another.
-fn tiles(random: &mut Random) -> Sets {
+pub fn tiles(random: &mut Random) -> Sets {
     let field = random.below(FIELDS);
     let other = (field + random.between(1, 3) as usize) % FIELDS;
     let mut base = Block::WIDEST;
@@ -246,11 +246,11 @@ fn consistent(random: &mut Random) -> Draft {
     }
 }
 
-fn conforming(random: &mut Random) -> Sets {
+pub fn conforming(random: &mut Random) -> Sets {
     consistent(random).sets()
 }
 
-fn slips(random: &mut Random) -> Sets {
+pub fn slips(random: &mut Random) -> Sets {
     let mut draft = consistent(random);
     for _ in 0..random.between(1, 3) {
         change(random, &mut draft);
@@ -259,7 +259,7 @@ fn slips(random: &mut Random) -> Sets {
 }
 
 /// The rules do what the directives ask, as if these had no exceptions.
-fn without_exceptions(random: &mut Random) -> Sets {
+pub fn without_exceptions(random: &mut Random) -> Sets {
     let mut draft = consistent(random);
     draft.rules = following(&draft.directives, &[]);
     if draft.exceptions.is_empty() {
@@ -270,7 +270,7 @@ fn without_exceptions(random: &mut Random) -> Sets {
 
 /// Only some of the rules that the policy asks for, each with the rules above that
 /// it needs; so nothing is wrong or unasked.
-fn partly_met(random: &mut Random) -> Sets {
+pub fn partly_met(random: &mut Random) -> Sets {
     let mut draft = consistent(random);
     let mut rules = vec![];
     for (number, directive) in (1..).zip(&draft.directives) {
@@ -300,7 +300,7 @@ fn partly_met(random: &mut Random) -> Sets {
 
 /// Directives that overlap and ask for different actions, with rules that follow
 /// them one after another.
-fn conflicting(random: &mut Random) -> Sets {
+pub fn conflicting(random: &mut Random) -> Sets {
     let mut draft = consistent(random);
     let directive = random.pick(&draft.directives);
     draft.directives.push(Directive {
@@ -317,7 +317,7 @@ fn conflicting(random: &mut Random) -> Sets {
 }
 
 /// A rule table without a policy, or a policy without a rule table.
-fn one_side(random: &mut Random) -> Sets {
+pub fn one_side(random: &mut Random) -> Sets {
     let shape = random.pick(&[corner as Shape, both_ends, network]);
     let (rules, policy) = few(random, shape, [6, 4, 5]);
     if random.one_in(2) {

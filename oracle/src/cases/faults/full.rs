@@ -42,7 +42,7 @@ pub fn pairs(random: &mut Random) -> Pairs {
 }
 
 /// Rules, directives and exceptions of full sets.
-const FULL: [usize; 3] = [MOST_RULES, MOST_DIRECTIVES, MOST_EXCEPTIONS];
+pub const FULL: [usize; 3] = [MOST_RULES, MOST_DIRECTIVES, MOST_EXCEPTIONS];
 
 /// Sets with fewer records, at least one of each kind.
 pub fn middling(random: &mut Random) -> Sets {
@@ -53,7 +53,7 @@ pub fn middling(random: &mut Random) -> Sets {
 
 /// Sets with so many records, whose bounds are among a few for each field. An
 /// exception has what its directive shares with such bounds.
-fn from_store(random: &mut Random, bounds: usize, counts: [usize; 3]) -> Sets {
+pub fn from_store(random: &mut Random, bounds: usize, counts: [usize; 3]) -> Sets {
     let store = store(random, bounds);
     let [rules, directives, exceptions] = counts;
     let rules = (0..rules)
@@ -105,7 +105,7 @@ fn picked(random: &mut Random, store: &[Vec<Bounds>; FIELDS]) -> Block {
 /// Full sets whose 160 blocks have 320 different bounds in each of these fields, as
 /// far as the field has so many numbers, and are open in the others. Where 0 and the
 /// largest number are no bounds, that makes 321 strips.
-fn different(random: &mut Random, fields: &[usize]) -> Sets {
+pub fn different(random: &mut Random, fields: &[usize]) -> Sets {
     let mut rules = vec![accept(Block::WIDEST); MOST_RULES];
     let mut directives = vec![ask_accept(Block::WIDEST); MOST_DIRECTIVES];
     let numbers = (0..MOST_EXCEPTIONS as u32).map(|place| place / 2 + 1);
@@ -152,7 +152,7 @@ fn between(low: u32, past: u32) -> Bounds {
     Bounds::new(low, low.max(past - 1))
 }
 
-fn shuffle<T>(random: &mut Random, items: &mut [T]) {
+pub fn shuffle<T>(random: &mut Random, items: &mut [T]) {
     for place in (1..items.len()).rev() {
         items.swap(place, random.below(place + 1));
     }
@@ -160,7 +160,7 @@ fn shuffle<T>(random: &mut Random, items: &mut [T]) {
 
 /// So many strips of each of these fields, apart from each other and open in the
 /// other fields.
-fn crossing(random: &mut Random, strips: usize, fields: &[usize]) -> RuleSet {
+pub fn crossing(random: &mut Random, strips: usize, fields: &[usize]) -> RuleSet {
     let mut rules = vec![];
     for strip in 0..strips as u32 {
         for field in fields {

@@ -35,24 +35,29 @@ impl Draft {
 
 /// A gateway that does what its policy asks, with up to three changes.
 pub fn gateway(random: &mut Random) -> Sets {
-    let mut draft = if random.one_in(2) {
-        shut_but_for_services(random)
-    } else {
-        services_but_for_hosts(random)
-    };
+    let mut draft = agreed(random, 5);
     for _ in 0..random.pick(&[0, 0, 1, 1, 2, 3]) {
         change(random, &mut draft);
     }
     draft.sets()
 }
 
+/// A gateway of at most so many services, before any change.
+pub fn agreed(random: &mut Random, most: u32) -> Draft {
+    if random.one_in(2) {
+        shut_but_for_services(random, most)
+    } else {
+        services_but_for_hosts(random, most)
+    }
+}
+
 /// All is asked to be denied but for services; the rules accept them one by one and
 /// close with a deny. Hosts that a service leaves out have a deny above it, and the
 /// policy has the addresses on both sides of the host.
-fn shut_but_for_services(random: &mut Random) -> Draft {
+fn shut_but_for_services(random: &mut Random, most: u32) -> Draft {
     let mut rules = vec![];
     let mut exceptions = vec![];
-    for _ in 0..random.between(1, 5) {
+    for _ in 0..random.between(1, most) {
         let service = service(random);
         let Bounds { low, high } = service.0[0];
         if high - low >= 7 && random.one_in(2) {
@@ -76,10 +81,10 @@ fn shut_but_for_services(random: &mut Random) -> Draft {
 /// A directive for each service, with hosts that it leaves out; the rules have the
 /// hosts above the subnets. Now and then a closing deny that nothing asks for, or
 /// one of a subnet that is asked for.
-fn services_but_for_hosts(random: &mut Random) -> Draft {
+fn services_but_for_hosts(random: &mut Random, most: u32) -> Draft {
     let mut directives = vec![];
     let mut exceptions = vec![];
-    for number in 1..=random.between(1, 5) {
+    for number in 1..=random.between(1, most) {
         let service = service(random);
         directives.push(if random.one_in(4) {
             ask_deny(service)

@@ -1,10 +1,10 @@
 //! Drawn requests with a fixed seed: rule texts and policy texts, well formed and
 //! damaged, and fields and lines asked for in such texts.
 
-mod blocks;
-mod bytes;
-mod damage;
-mod lines;
+pub mod blocks;
+pub mod bytes;
+pub mod damage;
+pub mod lines;
 mod spoilt;
 
 use crate::model::{MOST_DIRECTIVES, MOST_EXCEPTIONS, MOST_RULES};
@@ -56,7 +56,7 @@ fn text(random: &mut Random, named: Named) -> Vec<u8> {
     }
 }
 
-fn few_lines(random: &mut Random, named: Named) -> Vec<Line> {
+pub fn few_lines(random: &mut Random, named: Named) -> Vec<Line> {
     let records = random.pick(&[0, 1, 1, 2, 2, 3, 4, 6]);
     let lines = match named {
         Named::Rules => lines::rules(random, records),
@@ -69,7 +69,7 @@ fn few_lines(random: &mut Random, named: Named) -> Vec<Line> {
 }
 
 /// Counts on both sides of the limits.
-fn many_lines(random: &mut Random, named: Named) -> Vec<Line> {
+pub fn many_lines(random: &mut Random, named: Named) -> Vec<Line> {
     let lines = match named {
         Named::Rules => {
             let records = random.between(60, 70) as usize;
@@ -85,7 +85,7 @@ fn many_lines(random: &mut Random, named: Named) -> Vec<Line> {
 }
 
 /// The last record is one more than there may be, and its line is damaged too.
-fn one_too_many(random: &mut Random, named: Named) -> Vec<u8> {
+pub fn one_too_many(random: &mut Random, named: Named) -> Vec<u8> {
     let mut lines = match named {
         Named::Rules => lines::rules(random, MOST_RULES + 1),
         Named::Policy if random.one_in(2) => {

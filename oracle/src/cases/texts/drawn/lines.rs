@@ -73,12 +73,17 @@ fn fields(random: &mut Random, block: &Bounded) -> Vec<Vec<u8>> {
 /// One time in three with lines to be skipped put in.
 pub fn noted(random: &mut Random, mut lines: Vec<Line>) -> Vec<Line> {
     if random.one_in(3) {
-        for _ in 0..random.between(1, 4) {
-            let place = random.below(lines.len() + 1);
-            lines.insert(place, vec![random.pick(&NOTES).to_vec()]);
-        }
+        let notes = random.between(1, 4);
+        put_notes(random, &mut lines, notes);
     }
     lines
+}
+
+pub fn put_notes(random: &mut Random, lines: &mut Vec<Line>, notes: u32) {
+    for _ in 0..notes {
+        let place = random.below(lines.len() + 1);
+        lines.insert(place, vec![random.pick(&NOTES).to_vec()]);
+    }
 }
 
 /// The text of the lines, each ended.
