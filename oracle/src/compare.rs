@@ -5,6 +5,7 @@ mod report;
 mod scratch;
 mod shrink;
 
+use crate::faults::MOST_CELLS_DRAWN;
 use crate::pairs::{self, Pair, SHAPES};
 use crate::run;
 use report::Found;
@@ -60,7 +61,8 @@ fn shares(count: u64) -> String {
 /// this program cannot answer shows no difference.
 fn difference(scratch: &Scratch, words: &[&str], pair: &Pair) -> io::Result<Option<Found>> {
     let [rules, policy] = pair;
-    let Ok(expected) = run::answer(&rules.content(), &policy.content()) else {
+    let answer = run::answer(&rules.content(), &policy.content(), MOST_CELLS_DRAWN);
+    let Ok(expected) = answer else {
         return Ok(None);
     };
     let ran = scratch.run(pair, words)?;

@@ -17,8 +17,11 @@ use crate::model::{
 /// How many numbers a block of the listing takes.
 pub const NUMBERS: usize = 2 + 2 * FIELDS;
 
-/// More cells than any test has; a table of more would take too long.
-pub const MOST_CELLS: usize = 400_000;
+/// A table of more cells would take too long, and too much memory.
+pub const MOST_CELLS: usize = 16_000_000;
+
+/// No pair of sets that is drawn has more, so that each is answered at once.
+pub const MOST_CELLS_DRAWN: usize = 400_000;
 
 /// What the verdict tells: the label of its packet, the lowest directives that ask
 /// for accept and for deny there, or 0, and the packet. All zeros for conforms.

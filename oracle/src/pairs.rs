@@ -9,7 +9,7 @@ mod spelled;
 #[cfg(test)]
 mod tests;
 
-use crate::faults;
+use crate::faults::{self, MOST_CELLS_DRAWN};
 use crate::random::Random;
 use crate::run::Content;
 use crate::texts::reading;
@@ -116,7 +116,7 @@ fn can_be_answered([rules, policy]: &Pair) -> bool {
     let rules = rules.content().map(|text| reading::rules(&text));
     let policy = policy.content().map(|text| reading::policy(&text));
     match (rules, policy) {
-        (Some(Ok(rules)), Some(Ok(policy))) => faults::cells(&rules, &policy) <= faults::MOST_CELLS,
+        (Some(Ok(rules)), Some(Ok(policy))) => faults::cells(&rules, &policy) <= MOST_CELLS_DRAWN,
         _ => true,
     }
 }

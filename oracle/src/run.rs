@@ -17,7 +17,7 @@ pub type Content = Option<Vec<u8>>;
 /// The answer for the two files of a folder.
 pub fn run(folder: &Path) -> Result<String, TooManyCells> {
     let [rules, policy] = NAMES.map(|name| content(&folder.join(name)).ok());
-    answer(&rules, &policy)
+    answer(&rules, &policy, faults::MOST_CELLS)
 }
 
 /// No more is read than shows that a text is too long, so that a file without an end
@@ -29,14 +29,13 @@ fn content(path: &Path) -> io::Result<Vec<u8>> {
     Ok(bytes)
 }
 
-/// The sets are in form but the whole table of their labels is too large for this
-/// program.
+/// The sets are in form, but the whole table of their labels would be too large.
 #[derive(Debug, PartialEq, Eq)]
 pub struct TooManyCells(pub usize);
 
 /// What is printed for two files. A file that cannot be read goes before a refusal,
-/// and the rules go before the policy.
-pub fn answer(rules: &Content, policy: &Content) -> Result<String, TooManyCells> {
+/// and the rules go before the policy. A table of labels may have so many cells.
+pub fn answer(rules: &Content, policy: &Content, most: usize) -> Result<String, TooManyCells> {
     let (rules, policy) = match (rules, policy) {
         (None, _) => return Ok(printing::unreadable(NAMES[0])),
         (_, None) => return Ok(printing::unreadable(NAMES[1])),
@@ -48,7 +47,7 @@ pub fn answer(rules: &Content, policy: &Content) -> Result<String, TooManyCells>
         (Ok(rules), Ok(policy)) => (rules, policy),
     };
     let cells = faults::cells(&rules, &policy);
-    if cells > faults::MOST_CELLS {
+    if cells > most {
         return Err(TooManyCells(cells));
     }
     let faults = Faults::new(&rules, &policy).expect("what is read is in form");

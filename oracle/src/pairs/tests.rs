@@ -22,7 +22,7 @@ fn drawn() -> &'static [Drawn] {
     DRAWN.get_or_init(|| {
         let drawn = (1..=COUNT).map(|number| {
             let pair = draw(SEED, number);
-            let printed = answer(&pair[0].content(), &pair[1].content()).unwrap();
+            let printed = answer(&pair[0].content(), &pair[1].content(), MOST_CELLS_DRAWN).unwrap();
             Drawn {
                 shape: SHAPES[shape(number)].0,
                 pair,

@@ -30,7 +30,7 @@ fn tabbed(text: &str) -> Vec<u8> {
 
 /// The answer for two texts with spaces for tabs.
 fn told(rules: &str, policy: &str) -> String {
-    answer(&Some(tabbed(rules)), &Some(tabbed(policy))).unwrap()
+    answer(&Some(tabbed(rules)), &Some(tabbed(policy)), 1_000).unwrap()
 }
 
 #[test]
@@ -89,11 +89,11 @@ fn what_cannot_be_read_goes_before_any_refusal() {
         (&fine, &None, "policy.txt"),
         (&bad, &None, "policy.txt"),
     ] {
-        assert_eq!(answer(rules, policy), Ok(format!("unreadable {name}\n")));
+        assert_eq!(answer(rules, policy, 0), Ok(format!("unreadable {name}\n")));
     }
 }
 
-/// 40 blocks with different bounds in every field cut each into 81 strips, the first
+/// Eight blocks with different bounds in every field cut each into 17 strips, the first
 /// of which begins at 0.
 #[test]
 fn too_many_cells_are_told_and_not_tried() {
@@ -102,9 +102,13 @@ fn too_many_cells_are_told_and_not_tried() {
         let high = low + 1;
         format!("rule accept 0.0.0.{low}-0.0.0.{high} 0.0.0.{low}-0.0.0.{high} {low}-{high} {low}-{high}\n")
     };
-    let rules: String = (0..40).map(line).collect();
-    let told = answer(&Some(tabbed(&rules)), &Some(vec![]));
-    assert_eq!(told, Err(TooManyCells(81 * 81 * 81 * 81)));
+    let rules: String = (0..8).map(line).collect();
+    let told = |most| answer(&Some(tabbed(&rules)), &Some(vec![]), most);
+    let cells = 17 * 17 * 17 * 17;
+    assert_eq!(told(cells - 1), Err(TooManyCells(cells)));
+    assert!(told(cells)
+        .unwrap()
+        .starts_with("verdict unasked 1 0 0 0.0.0.1 "));
 }
 
 /// A folder of its own, removed at the end.

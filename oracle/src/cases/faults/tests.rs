@@ -1,7 +1,7 @@
 //! That the drawn pairs reach every verdict and listings of all lengths.
 
 use super::*;
-use crate::faults::blocks;
+use crate::faults::{blocks, cells, MOST_CELLS_DRAWN};
 use crate::model::{Kind, LARGEST};
 use crate::requests::answers;
 use std::collections::{BTreeMap, BTreeSet};
@@ -22,6 +22,13 @@ fn faults((rules, policy): &Sets) -> Faults {
 fn the_named_cases_have_the_answers_of_the_paper() {
     for case in [paper::cases(), named::cases()].concat() {
         case.assert();
+    }
+}
+
+#[test]
+fn no_pair_has_more_cells_than_it_may() {
+    for (name, (rules, policy)) in [full(), drawn()].concat() {
+        assert!(cells(&rules, &policy) <= MOST_CELLS_DRAWN, "{name}");
     }
 }
 
