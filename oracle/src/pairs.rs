@@ -4,6 +4,7 @@
 mod conforming;
 mod files;
 mod listings;
+mod named;
 mod sets;
 mod spelled;
 #[cfg(test)]
@@ -61,19 +62,21 @@ pub type Pair = [Entry; 2];
 type Family = fn(&mut Random) -> Pair;
 
 /// A name, how many of each ninety pairs have this shape, and how it is drawn.
-pub const SHAPES: [(&str, usize, Family); 20] = [
-    ("tiny", 9, sets::tiny),
-    ("nested", 6, sets::nested),
-    ("overlapping", 11, sets::overlapping),
+pub const SHAPES: [(&str, usize, Family); 22] = [
+    ("named sets", 2, named::sets),
+    ("named texts", 6, named::texts),
+    ("tiny", 8, sets::tiny),
+    ("nested", 5, sets::nested),
+    ("overlapping", 8, sets::overlapping),
     ("partly met", 3, sets::partly_met),
     ("table follows policy", 5, conforming::table_follows_policy),
     ("policy follows table", 5, conforming::policy_follows_table),
     ("full", 3, sets::full),
-    ("gateways", 6, sets::gateways),
-    ("gateways with slips", 7, sets::slips),
+    ("gateways", 5, sets::gateways),
+    ("gateways with slips", 6, sets::slips),
     ("near 512 blocks", 3, listings::near_the_limit),
     ("more than 512 blocks", 4, listings::far_above),
-    ("one damaged", 9, files::one_damaged),
+    ("one damaged", 8, files::one_damaged),
     ("both damaged", 3, files::both_damaged),
     ("unreadable", 5, files::unreadable),
     ("unreadable beside refused", 2, files::beside_refused),

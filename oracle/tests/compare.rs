@@ -61,7 +61,7 @@ fn a_program_that_answers_alike_agrees_on_every_shape() {
     assert!(agree, "{told}");
     assert_eq!(told.lines().count(), 1);
     assert!(
-        told.starts_with("90 pairs agree: 9 tiny, 6 nested, "),
+        told.starts_with("90 pairs agree: 2 named sets, 6 named texts, 8 tiny, "),
         "{told}"
     );
 }

@@ -32,6 +32,12 @@ pub fn write(script: &mut Script) {
     }
 }
 
+/// The sets of the named cases.
+pub fn named_sets() -> Vec<Sets> {
+    let cases = [paper::cases(), named::cases()].concat();
+    cases.into_iter().map(|case| case.sets).collect()
+}
+
 /// Pairs of sets, each with the name of its shape.
 type Pairs = Vec<(&'static str, Sets)>;
 

@@ -33,6 +33,16 @@ pub fn requests() -> Vec<u8> {
     bytes
 }
 
+/// The texts of the named cases, each with its kind.
+pub fn named_texts() -> Vec<(Named, Vec<u8>)> {
+    let text = |case: Case| match case.request {
+        Request::Rules(text) => Some((Named::Rules, text)),
+        Request::Policy(text) => Some((Named::Policy, text)),
+        _ => None,
+    };
+    named().into_iter().filter_map(text).collect()
+}
+
 fn named() -> Vec<Case> {
     [
         paper::cases(),

@@ -8,7 +8,10 @@ use std::time::{Duration, Instant};
 
 /// A slow program, or one that does not end, is not run for ever.
 const MOST_TRIES: usize = 4_000;
-const LONGEST: Duration = Duration::from_secs(180);
+const LONGEST: Duration = Duration::from_secs(120);
+
+/// So many pieces of a text are tried to be dropped one by one.
+const MOST_PIECES: usize = 256;
 
 /// Lines that are longer are cut by pieces, not by numbers.
 const LONG: usize = 120;
@@ -92,21 +95,23 @@ impl<D: FnMut(&Pair) -> io::Result<bool>> Shrinking<D> {
         Ok(self.offer(place, Entry::Text(vec![]))? || plain)
     }
 
-    /// Half of the lines at once at first, in the end one by one.
+    /// Half of the lines at once at first, in the end one by one; of very many lines no
+    /// fewer at once than can be tried in a short time.
     fn drop_lines(&mut self, place: usize) -> io::Result<bool> {
         let mut lines = self.lines(place);
         let mut smaller = false;
+        let fewest = lines.len().div_ceil(MOST_PIECES).max(1);
         let mut count = lines.len().div_ceil(2);
-        while count > 0 {
+        while count >= fewest {
             let mut first = 0;
             while first < lines.len() {
-                let mut fewer = lines.clone();
-                fewer.drain(first..lines.len().min(first + count));
-                if self.offer_lines(place, &fewer)? {
-                    lines = fewer;
+                let past = lines.len().min(first + count);
+                let fewer = [lines[..first].concat(), lines[past..].concat()].concat();
+                if self.offer(place, Entry::Text(fewer))? {
+                    lines.drain(first..past);
                     smaller = true;
                 } else {
-                    first += count;
+                    first = past;
                 }
             }
             count /= 2;
@@ -260,6 +265,19 @@ mod tests {
             panic!("a text becomes a text");
         };
         assert!(left.len() <= LONG, "{}", left.len());
+    }
+
+    /// The tries for a text of which every byte is needed stay few.
+    #[test]
+    fn a_text_that_cannot_shrink_is_soon_given_up() {
+        let mut tries = 0;
+        let long = text(&"\n".repeat(32_768));
+        let pair = smallest([long.clone(), text("")], |pair| {
+            tries += 1;
+            Ok(pair[0] == long)
+        });
+        assert_eq!(pair.unwrap(), [long.clone(), text("")]);
+        assert!(tries <= 600, "{tries}");
     }
 
     #[test]

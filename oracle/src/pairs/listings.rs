@@ -17,38 +17,23 @@ pub fn near_the_limit(random: &mut Random) -> Pair {
 /// How many hosts, bands and guests there are.
 type Counts = [usize; 3];
 
-/// Sets whose listing has just so many blocks. Bands are single numbers of one field, open
-/// in all others. Hosts are single numbers of a field before it, and each has a number
-/// of its own behind the bands; the first host has some more, its guests. All numbers
-/// lie apart from each other and from the ends. So each host has the bands and one
-/// block, the first also the guests, and the bands lie in each gap beside the hosts.
+/// Sets whose listing has just so many blocks, of which some are asked for or none.
 fn blocks_of(random: &mut Random, blocks: usize) -> (RuleSet, PolicySet) {
     let asked = random.one_in(2);
     let fitting: Vec<Counts> = counts(blocks)
         .into_iter()
         .filter(|[_, bands, _]| !asked || *bands <= MOST_DIRECTIVES)
         .collect();
-    let [hosts, bands, guests] = random.pick(&fitting);
-    let first = random.below(FIELDS - 1);
-    let second = first + 1 + random.below(FIELDS - 1 - first);
-    let host = apart(random, hosts);
-    let across = apart(random, bands + 1 + guests);
-    let (band, behind) = across.split_at(bands);
-    let band = band.iter().map(|number| at(&[(second, *number)]));
-    let mut decided: Vec<Block> = host
-        .iter()
-        .map(|number| at(&[(first, *number), (second, behind[0])]))
-        .collect();
-    let guests = behind[1..].iter();
-    decided.extend(guests.map(|number| at(&[(first, host[0]), (second, *number)])));
+    let counts = random.pick(&fitting);
+    let (bands, mut decided) = placed(random, counts);
     let mut directives = vec![];
     if asked {
-        directives.extend(band.map(|block| Directive {
+        directives.extend(bands.into_iter().map(|block| Directive {
             action: random_action(random),
             block,
         }));
     } else {
-        decided.extend(band);
+        decided.extend(bands);
     }
     let mut rules: Vec<Rule> = decided
         .into_iter()
@@ -59,6 +44,27 @@ fn blocks_of(random: &mut Random, blocks: usize) -> (RuleSet, PolicySet) {
         .collect();
     shuffle(random, &mut rules);
     (RuleSet::new(rules), PolicySet::new(directives, vec![]))
+}
+
+/// The bands, then the hosts and guests. Bands are single numbers of one field, open in all
+/// others. Hosts are single numbers of a field before it, all with the same number behind
+/// the bands; the first host has some more behind that, its guests. All numbers lie apart
+/// from each other and from the ends. So each host has the bands and one block, the first
+/// also the guests, and each gap beside the hosts has the bands.
+fn placed(random: &mut Random, [hosts, bands, guests]: Counts) -> (Vec<Block>, Vec<Block>) {
+    let first = random.below(FIELDS - 1);
+    let second = first + 1 + random.below(FIELDS - 1 - first);
+    let host = apart(random, hosts);
+    let across = apart(random, bands + 1 + guests);
+    let (band, behind) = across.split_at(bands);
+    let bands = band.iter().map(|number| at(&[(second, *number)]));
+    let hosts = host
+        .iter()
+        .map(|number| at(&[(first, *number), (second, behind[0])]));
+    let guests = behind[1..]
+        .iter()
+        .map(|number| at(&[(first, host[0]), (second, *number)]));
+    (bands.collect(), hosts.chain(guests).collect())
 }
 
 /// All counts that give so many blocks and take at most 64 records.
