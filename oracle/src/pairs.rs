@@ -2,6 +2,7 @@
 //! has a number, and hangs on its number and a seed alone.
 
 mod conforming;
+mod edges;
 mod files;
 mod listings;
 mod named;
@@ -62,10 +63,11 @@ pub type Pair = [Entry; 2];
 type Family = fn(&mut Random) -> Pair;
 
 /// A name, how many of each ninety pairs have this shape, and how it is drawn.
-pub const SHAPES: [(&str, usize, Family); 22] = [
+pub const SHAPES: [(&str, usize, Family); 23] = [
     ("named sets", 2, named::sets),
-    ("named texts", 6, named::texts),
-    ("tiny", 8, sets::tiny),
+    ("named texts", 3, named::texts),
+    ("edges", 6, edges::edges),
+    ("tiny", 7, sets::tiny),
     ("nested", 5, sets::nested),
     ("overlapping", 8, sets::overlapping),
     ("partly met", 3, sets::partly_met),
@@ -76,7 +78,7 @@ pub const SHAPES: [(&str, usize, Family); 22] = [
     ("gateways with slips", 6, sets::slips),
     ("near 512 blocks", 3, listings::near_the_limit),
     ("more than 512 blocks", 4, listings::far_above),
-    ("one damaged", 8, files::one_damaged),
+    ("one damaged", 6, files::one_damaged),
     ("both damaged", 3, files::both_damaged),
     ("unreadable", 5, files::unreadable),
     ("unreadable beside refused", 2, files::beside_refused),

@@ -61,33 +61,38 @@ fn a_program_that_answers_alike_agrees_on_every_shape() {
     assert!(agree, "{told}");
     assert_eq!(told.lines().count(), 1);
     assert!(
-        told.starts_with("90 pairs agree: 2 named sets, 6 named texts, 8 tiny, "),
+        told.starts_with("90 pairs agree: 2 named sets, 3 named texts, 6 edges, 7 tiny, "),
         "{told}"
     );
 }
 
-/// The smallest pair with a wrong rule has one rule and one directive, open in all
-/// fields.
+/// A wrong rule is shown by one rule and by one directive with one exception at most, all
+/// of them open in all fields.
 #[test]
-fn a_wrong_word_is_shown_by_two_open_lines() {
+fn a_wrong_word_is_shown_by_few_open_lines() {
     let line = r#""$1" run . | sed 's/^verdict wrong/verdict unasked/'"#;
     let (agree, told) = compare("word", 300, line);
     assert!(!agree, "{told}");
-    let lines: Vec<&str> = told.lines().collect();
-    let actions = [["accept", "deny"], ["deny", "accept"]].into_iter();
-    let mut shown = actions.map(|[does, asked]| {
-        [
-            format!("rules.txt, {} bytes:", 14 + does.len()),
-            format!("      1 rule\\t{does}\\t*\\t*\\t*\\t*"),
-            format!("policy.txt, {} bytes:", 13 + asked.len()),
-            format!("      1 ask\\t{asked}\\t*\\t*\\t*\\t*"),
-        ]
-    });
-    assert!(shown.any(|shown| lines[2..6] == shown), "{told}");
-    assert_eq!(lines[6], "the program (exit status: 0) prints:");
-    assert!(lines[7].starts_with("      1 verdict unasked 1 "), "{told}");
-    assert_eq!(lines[10], "the independent program prints:");
-    assert!(lines[11].starts_with("      1 verdict wrong 1 "), "{told}");
+    let (files, outputs) = told
+        .split_once("the program (exit status: 0) prints:\n")
+        .unwrap();
+    let (rules, policy) = files.split_once("policy.txt, ").unwrap();
+    for (lines, most) in [(rules.lines().skip(3), 1), (policy.lines().skip(1), 2)] {
+        let lines: Vec<&str> = lines.collect();
+        assert!((1..=most).contains(&lines.len()), "{told}");
+        assert!(
+            lines.iter().all(|line| line.ends_with("\\t*\\t*\\t*\\t*")),
+            "{told}"
+        );
+    }
+    let (program, independent) = outputs
+        .split_once("the independent program prints:\n")
+        .unwrap();
+    assert!(program.starts_with("      1 verdict unasked 1 "), "{told}");
+    assert!(
+        independent.starts_with("      1 verdict wrong 1 "),
+        "{told}"
+    );
 }
 
 /// Only listings of 512 blocks and more show it.

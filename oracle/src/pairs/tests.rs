@@ -185,6 +185,21 @@ fn shown(entry: &Entry) -> String {
 }
 
 #[test]
+fn every_edge_is_met() {
+    let fields: BTreeSet<String> = of_shape("edges")
+        .flat_map(|drawn| drawn.pair.each_ref().map(shown))
+        .flat_map(|text| {
+            text.split(['\t', '\n'])
+                .map(str::to_string)
+                .collect::<Vec<_>>()
+        })
+        .collect();
+    for (_, spelling) in edges::spellings() {
+        assert!(fields.contains(spelling), "{spelling}");
+    }
+}
+
+#[test]
 fn full_sets_are_full() {
     for drawn in of_shape("full") {
         let [rules, policy] = drawn.pair.each_ref().map(shown);
