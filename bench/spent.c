@@ -4,7 +4,7 @@
  *
  * It runs the command, with what it prints in OUTPUT, and tells the microseconds, user and system, and the exit status; or
  * `limit`, if it took LIMIT seconds or more, whether it was ended then or not; or `signal` and its number. A short command is run
- * again, up to twenty times or for a second, and the least is told. */
+ * again, up to a hundred times or for half a second, and the least is told. */
 
 #define _GNU_SOURCE
 #include <fcntl.h>
@@ -14,7 +14,7 @@
 #include <sys/wait.h>
 #include <unistd.h>
 
-enum { MOST_RUNS = 20, ENOUGH = 1000000 };
+enum { MOST_RUNS = 100, ENOUGH = 500000 };
 
 static void start(rlim_t seconds, const char *output, char **words)
 {
