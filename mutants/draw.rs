@@ -5,8 +5,8 @@
 //!     draw edits SEED FILE...    the edits, in the order in which they are to be tried
 //!
 //! An edit is another token for one in a function's body or in a constant's value, and keeps the
-//! control flow. It is a line of text: file, line number, old and new line as they stand in the marked
-//! file. Nothing is known of types but what is written down, so some edits do not compile.
+//! control flow. It is a line of text: file, line number, `body` or `constant`, old and new line as they
+//! stand in the marked file. Nothing is known of types but what is written down, so some edits do not compile.
 //! The same words give the same edits on every machine.
 
 use std::collections::{HashMap, HashSet};
@@ -23,6 +23,7 @@ struct Token {
 /// What a function or a constant is made of.
 #[derive(Default)]
 struct Region {
+    is_constant: bool,
     tokens: Vec<Token>,
     /// Which tokens stay: patterns, types, lengths of arrays.
     fixed: Vec<bool>,
@@ -34,6 +35,7 @@ struct Region {
 /// Another text for a token.
 struct Edit {
     file: usize,
+    in_constant: bool,
     line: usize,
     start: usize,
     old: String,
@@ -167,6 +169,7 @@ fn regions_of(tokens: &[Token]) -> Vec<Region> {
         let start = at + ahead + 1;
         let end = start + region_length(&tokens[start..], body);
         let mut region = Region {
+            is_constant: !body,
             tokens: tokens[start..end].to_vec(),
             types: types.clone(),
             ..Region::default()
@@ -467,6 +470,7 @@ fn edits_of(file: usize, text: &str) -> Vec<Vec<Edit>> {
             };
             let edit = |new| Edit {
                 file,
+                in_constant: region.is_constant,
                 line: token.line,
                 start: token.start,
                 old: token.text.clone(),
@@ -551,12 +555,9 @@ fn print_edits(seed: u64, files: &[(String, String)]) {
     for edit in shuffled(sites, &mut Random(seed)) {
         let old = &lines[edit.file][edit.line];
         let (front, back) = (&old[..edit.start], &old[edit.start + edit.old.len()..]);
-        println!(
-            "{}\t{}\t{old}\t{front}{}{back}",
-            files[edit.file].0,
-            edit.line + 1,
-            edit.new
-        );
+        let place = if edit.in_constant { "constant" } else { "body" };
+        let (file, line, new) = (&files[edit.file].0, edit.line + 1, &edit.new);
+        println!("{file}\t{line}\t{place}\t{old}\t{front}{new}{back}");
     }
 }
 
