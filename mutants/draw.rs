@@ -1,12 +1,11 @@
 //! Draws small edits of Rattle sources for `mutants/run`:
 //!
 //!     draw lines FILE...         how many lines have code that an edit could change
-//!     draw mark FILE             the file, with a comment behind each such line that it has more than once
 //!     draw edits SEED FILE...    the edits, in the order in which they are to be tried
 //!
 //! An edit is another token for one in a function's body or in a constant's value, and keeps the
-//! control flow. It is a line of text: file, line number, `body` or `constant`, old and new line as they
-//! stand in the marked file. Nothing is known of types but what is written down, so some edits do not compile.
+//! control flow. It is a line of text: file, line number, `body` or `constant`, old and new line.
+//! Nothing is known of types but what is written down, so some edits do not compile.
 //! The same words give the same edits on every machine.
 
 mod edits;
@@ -63,27 +62,17 @@ fn lines_with_code(text: &str) -> HashSet<usize> {
         .collect()
 }
 
-/// The lines of a file, with a comment behind each that could be edited and that the file has more than once.
-fn marked(text: &str) -> Vec<String> {
-    let with_code = lines_with_code(text);
-    let mark = |(i, line): (usize, &str)| {
-        if with_code.contains(&i) && text.matches(line).count() > 1 {
-            format!("{line} // line {}.", i + 1)
-        } else {
-            line.to_string()
-        }
-    };
-    text.lines().enumerate().map(mark).collect()
-}
-
 fn print_edits(seed: u64, files: &[(String, String)]) {
     let mut sites = Vec::new();
     for (i, (_, text)) in files.iter().enumerate() {
         sites.extend(edits_of(i, text));
     }
-    let lines: Vec<Vec<String>> = files.iter().map(|(_, text)| marked(text)).collect();
+    let lines: Vec<Vec<&str>> = files
+        .iter()
+        .map(|(_, text)| text.lines().collect())
+        .collect();
     for edit in shuffled(sites, &mut Random(seed)) {
-        let old = &lines[edit.file][edit.line];
+        let old = lines[edit.file][edit.line];
         let (front, back) = (&old[..edit.start], &old[edit.start + edit.old.len()..]);
         let place = if edit.in_constant { "constant" } else { "body" };
         let (file, line, new) = (&files[edit.file].0, edit.line + 1, &edit.new);
@@ -116,11 +105,6 @@ fn run(words: &[String]) -> Option<()> {
                 .sum();
             println!("{count}");
         }
-        "mark" => {
-            for (_, text) in read_all(rest)? {
-                marked(&text).iter().for_each(|line| println!("{line}"));
-            }
-        }
         "edits" => {
             let (seed, names) = rest.split_first()?;
             print_edits(seed.parse().ok()?, &read_all(names)?);
@@ -135,6 +119,6 @@ fn main() -> ExitCode {
     if run(&words).is_some() {
         return ExitCode::SUCCESS;
     }
-    eprintln!("usage: draw lines FILE... | draw mark FILE | draw edits SEED FILE...");
+    eprintln!("usage: draw lines FILE... | draw edits SEED FILE...");
     ExitCode::from(2)
 }
