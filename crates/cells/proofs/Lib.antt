@@ -1,6 +1,5 @@
 -- The laws of cells.
 pub mod MaskLaws
-pub mod Stores
 pub mod Telling
 pub mod Below
 mod Labels

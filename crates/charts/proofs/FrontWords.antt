@@ -15,7 +15,7 @@ use Rattle.meaning.proofs.RecordsEvery.{every-of}
 use Rattle.cells.specs.Masks.{mask}
 use Rattle.cells.specs.Words.{accepts, namesSuch, WordsOf}
 use Rattle.cells.proofs.MaskLaws.{mask-same, mask-or}
-use Rattle.cells.proofs.Stores.{sets-more}
+use Rattle.meaning.proofs.BufferStores.{sets-more}
 use Rattle.sets.specs.Inner.{directivesOf, exceptionsOf}
 use Rattle.sets.specs.Vocabulary.{directiveOf}
 use Rattle.sets.specs.declared.Directive.{Directive}

@@ -7,7 +7,7 @@ use lib.ListN.{length, take, drop, set, length-append}
 use lib.Seq.{sets, sets-eq, take-at}
 use Rattle.meaning.specs.Blocks.{Block}
 use Rattle.meaning.specs.Buffers.{bounds}
-use Rattle.cells.proofs.Stores.{sets-append}
+use Rattle.meaning.proofs.BufferStores.{sets-append}
 use Rattle.strips.specs.Spans.{numbersOf}
 use Rattle.strips.specs.Spans.{InFront}
 

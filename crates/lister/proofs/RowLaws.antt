@@ -14,7 +14,7 @@ use Rattle.meaning.specs.Blocks.{Span}
 use Rattle.meaning.specs.Buffers as buffers
 use Rattle.meaning.specs.Labels.{Label, kind, rule}
 use Rattle.meaning.specs.Listings.{Listed, widen}
-use Rattle.cells.proofs.Stores.{sets-more}
+use Rattle.meaning.proofs.BufferStores.{sets-more}
 use Rattle.lister.specs.Rows.{bounds, labelledRow, RowWith, spanAt, stretched, rowOf, rowAt, rowsFrom}
 
 -- one more number of v is stored

@@ -13,7 +13,7 @@ use Rattle.meaning.specs.Listings.{Listed}
 use Rattle.meaning.specs.Records.{Every, every-none, every-more}
 use Rattle.meaning.proofs.BufferWritten.{row-length, rows-fit}
 use Rattle.meaning.proofs.ListingForm.{InForm}
-use Rattle.cells.proofs.Stores.{sets-append}
+use Rattle.meaning.proofs.BufferStores.{sets-append}
 use Rattle.lister.specs.Rows.{rowsFrom}
 use Rattle.lister.proofs.RowLaws.{row-fits, row-left-out}
 

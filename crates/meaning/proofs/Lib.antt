@@ -23,6 +23,7 @@ pub mod ListingExists
 pub mod ListingEmpty
 pub mod ListingCount
 pub mod ListingForm
+pub mod BufferStores
 pub mod BufferWritten
 pub mod StripPlaces
 pub mod StripCells

@@ -1,8 +1,9 @@
 -- Numbers stored one behind the other. Assumes nothing.
-use mathlib.Core.Path.{_≡_, sym, ap, _∙_}
+use mathlib.Core.Path.{_≡_, refl, sym, ap, _∙_}
 use mathlib.Core.List.{List, [], _∷_, _++_}
-use Prim.Native.Nat.{ℕ, suc, _+_, _≤_}
+use Prim.Native.Nat.{ℕ, zero, suc, _+_, _≤_}
 use native.Mathlib.Nat.{add-zero, add-suc, suc-add}
+use native.Mathlib.Omega.{arith}
 use lib.ListN.{length, take, set}
 use lib.Seq.{sets, length-take-le}
 
@@ -21,3 +22,13 @@ sets-more l vs i k x within one-more =
     sym
     (ap (sets l i) one-more ∙ sets-append (take k vs) (x ∷ []) l i
     ∙ ap (λ (n : ℕ). set (sets l i (take k vs)) (i + n) x) long)
+
+-- past the end of a list nothing is stored
+set-past : (l : List ℕ) (i x : ℕ) → length l ≤ i → set l i x ≡ l
+set-past [] i x h = refl
+set-past (y ∷ l) zero x h = absurd (omega (arith, h))
+set-past (y ∷ l) (suc i) x h = ap (λ (r : List ℕ). y ∷ r) (set-past l i x (omega arith))
+
+pub sets-past : (vs l : List ℕ) (i : ℕ) → length l ≤ i → sets l i vs ≡ l
+sets-past [] l i h = refl
+sets-past (x ∷ vs) l i h = ap (λ (r : List ℕ). sets r (suc i) vs) (set-past l i x h) ∙ sets-past vs l (suc i) (omega arith)

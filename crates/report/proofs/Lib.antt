@@ -1,0 +1,4 @@
+pub mod RowLines
+pub mod Reporting
+pub mod OneAnswer
+pub mod Promises
