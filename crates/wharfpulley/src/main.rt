@@ -40,22 +40,36 @@ fn run(rules: &mut [u8], policy: &mut [u8], output: &mut [u8]) {
         output,
     );
     if length <= output.len() {
-        io::write_all(STDOUT_FILENO, &output[..length]);
+        write(&output[..length]);
     }
 }
 
-// Reads a file, or as much of it as the buffer takes.
+// Writes to standard output; if that fails, standard error has why.
+fn write(output: &[u8]) {
+    if io::write_all(STDOUT_FILENO, output) {
+        return;
+    }
+    os::fail(b"standard output");
+}
+
+// Reads a file, or as much of it as the buffer takes. If it cannot be read, standard error has why.
 fn read_file(name: &[u8], buffer: &mut [u8]) -> FileRead
     ensures { λ r. ⌜ r .length ≤ length (now (buffer .exit)) ⌝ }
 {
     let file = os::open_read(name);
     if file < 0 {
+        os::fail(name);
         return FileRead {
             is_read: false,
             length: 0,
         };
     }
     let read = read_all(file, buffer);
+    if read.is_read {
+        libc::close(file);
+        return read;
+    }
+    os::fail(name);
     libc::close(file);
     read
 }
