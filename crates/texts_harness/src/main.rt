@@ -1,11 +1,14 @@
-// A test harness that makes the calls that read texts reachable from outside. It reads requests from standard input, makes
-// the call that each asks for, and writes what the call gave to standard output. It ends at the first request that it cannot
-// read, as it does at the end of the input. Beside this folder, `stdin` has requests and `stdout` the answers of an independent
-// program to them, with which a check compares what is answered here; that program writes both anew, and they are not kept.
-// The functions are proved safe and ending for every input, not more.
+// A test harness that makes the calls that read texts and those that print reachable from outside. It reads requests from
+// standard input, makes the call that each asks for, and writes what the call gave to standard output. It ends at the first
+// request that it cannot read, as it does at the end of the input. Beside this folder, `stdin` has requests and `stdout` the
+// answers of an independent program to them, with which a check compares what is answered here; that program writes both anew,
+// and they are not kept. The functions are proved safe and ending for every input, not more.
 
 mod answers;
+mod arguments;
 mod input;
+mod lending;
+mod puts;
 mod records;
 mod replies;
 mod requests;

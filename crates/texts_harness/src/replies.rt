@@ -1,6 +1,7 @@
 // The requests, a function for each.
 
 use crate::answers;
+use crate::lending;
 use crate::records::Told;
 use crate::requests::Request;
 use lookup::Which;
@@ -20,6 +21,8 @@ pub(crate) fn reply<'a>(request: Request, text: &'a [u8], other: &'a [u8], outpu
         b'P' => tell_policy(policy_text::read_policy(text), output),
         b'F' => tell_field(text, request.number, output),
         b'L' => tell_line(text, other, request.which(), request.number, output),
+        b'O' => lending::tell_report(request.which, request.number, text, other, output),
+        b'V' => lending::tell_put(request.which, request.number, text, output),
         _ => {}
     }
 }

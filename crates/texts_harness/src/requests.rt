@@ -10,15 +10,16 @@ pub(crate) const MOST_PAYLOAD: usize = 65536;
 // More bytes than a request has: beside its payload a letter, four times a space and 20 digits, and the end byte.
 pub(crate) const MOST_BYTES: usize = 65664;
 
-// The numbers have places: which of two texts is named; the number of a field or a record, or how many times to read; the
-// length of the payload or of its first text; the length of its second text.
+// The numbers have places: which text is named, which can be read, or which call is meant; the number of a field or a record,
+// how many times to read, the room that is lent, or the place to start at; the length of the payload or of its first text; the
+// length of its second text.
 const MOST_NUMBERS: usize = 4;
 
 // What a header says, and how many bytes it has: 0 if there is no header. Numbers that it lacks are 0.
 pub(crate) struct Request {
     pub(crate) header: usize,
     pub(crate) letter: u8,
-    which: usize,
+    pub(crate) which: usize,
     pub(crate) number: usize,
     pub(crate) length: usize,
     pub(crate) other_length: usize,
@@ -115,7 +116,7 @@ fn first_byte(input: &[u8]) -> u8 {
 // The place of the first number that a letter asks for.
 fn first_place(letter: u8) -> usize {
     match letter {
-        b'L' => 0,
+        b'L' | b'O' | b'V' => 0,
         b'F' | b'T' => 1,
         _ => 2,
     }
@@ -126,8 +127,8 @@ fn past_place(letter: u8) -> usize
     ensures { λ r. ⌜ r ≤ 4 ⌝ }
 {
     match letter {
-        b'L' => 4,
-        b'R' | b'P' | b'F' | b'T' => 3,
+        b'L' | b'O' => 4,
+        b'R' | b'P' | b'F' | b'T' | b'V' => 3,
         _ => 0,
     }
 }
