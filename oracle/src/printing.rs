@@ -1,8 +1,8 @@
 //! What the program prints, as document 01's "One whole run" shows it: fields parted
 //! by one space, each line ended by byte 10.
 
-use crate::faults::{Faults, Listed, Verdict};
-use crate::model::{Bounds, Kind, Packet, Refusal};
+use crate::faults::{Faults, Verdict};
+use crate::model::{Block, Bounds, Kind, Packet, Refusal};
 use std::net::Ipv4Addr;
 
 /// At most so many block lines are printed; the total is printed in any case.
@@ -23,14 +23,21 @@ pub fn refused(name: &str, refusal: Refusal) -> String {
 
 pub fn faults(faults: &Faults) -> String {
     let mut lines = vec![verdict(&faults.verdict)];
-    lines.push(format!("blocks {}", faults.listing.len()));
-    lines.extend(faults.listing.iter().take(MOST_LINES).map(block));
+    lines.push(total(faults.listing.len() as u64));
+    for listed in faults.listing.iter().take(MOST_LINES) {
+        let label = listed.label;
+        lines.push(block(label.kind as u32, label.rule, listed.block));
+    }
     lines.join("\n") + "\n"
+}
+
+pub fn total(count: u64) -> String {
+    format!("blocks {count}")
 }
 
 /// The word, rule, accept directive, deny directive and packet; nothing stands behind
 /// `conforms`.
-fn verdict(verdict: &Verdict) -> String {
+pub fn verdict(verdict: &Verdict) -> String {
     let word = match verdict.label.kind {
         Kind::Good => return "verdict conforms".to_string(),
         Kind::Conflict => "conflict",
@@ -46,9 +53,8 @@ fn verdict(verdict: &Verdict) -> String {
 }
 
 /// Kind and rule by number, then four pairs of bounds.
-fn block(listed: &Listed) -> String {
-    let [source, destination, protocol, port] = listed.block.0;
-    let (kind, rule) = (listed.label.kind as u32, listed.label.rule);
+pub fn block(kind: u32, rule: u32, block: Block) -> String {
+    let [source, destination, protocol, port] = block.0;
     let addresses =
         [source, destination].map(|Bounds { low, high }| format!("{} {}", quad(low), quad(high)));
     let numbers = [protocol, port].map(|Bounds { low, high }| format!("{low} {high}"));
@@ -59,14 +65,15 @@ fn block(listed: &Listed) -> String {
     )
 }
 
-fn quad(address: u32) -> String {
+pub fn quad(address: u32) -> String {
     Ipv4Addr::from(address).to_string()
 }
 
 #[cfg(test)]
 mod tests {
     use super::*;
-    use crate::model::{Block, Label};
+    use crate::faults::Listed;
+    use crate::model::Label;
 
     fn told(kind: Kind, rule: u32, directives: [u32; 2], packet: [u32; 4]) -> String {
         verdict(&Verdict {
@@ -128,15 +135,8 @@ mod tests {
 
     #[test]
     fn a_block_has_its_kind_by_number_and_all_bounds() {
-        let listed = Listed {
-            label: Label {
-                kind: Kind::UnmetDeny,
-                rule: 0,
-            },
-            block: Block::WIDEST,
-        };
         let line = "block 5 0 0.0.0.0 255.255.255.255 0.0.0.0 255.255.255.255 0 255 0 65535";
-        assert_eq!(block(&listed), line);
+        assert_eq!(block(Kind::UnmetDeny as u32, 0, Block::WIDEST), line);
     }
 
     #[test]

@@ -1,5 +1,6 @@
 //! The requests about texts: named cases first, each with its answer by the
-//! papers, then drawn texts with a fixed seed.
+//! papers, then drawn texts with a fixed seed. The requests that lend bytes to what
+//! prints follow, named and drawn likewise.
 //!
 //! A case names the sentence of document 01 or the reading (01.1 and so on; see
 //! docs/DECISIONS.md, 45 to 62) that decides it.
@@ -9,6 +10,7 @@ mod counts;
 pub mod drawn;
 mod exceptions;
 mod fields;
+mod lent;
 mod lines;
 mod lookup;
 mod numbers;
@@ -23,13 +25,15 @@ use crate::texts::requests::Request;
 /// All requests about texts, one behind the other.
 pub fn requests() -> Vec<u8> {
     let mut bytes = vec![];
-    for case in named() {
-        case.assert();
-        case.request.write(&mut bytes);
-    }
-    for request in drawn::requests() {
-        request.write(&mut bytes);
-    }
+    let mut write = |cases: Vec<Case>, drawn: Vec<Request>| {
+        cases.iter().for_each(Case::assert);
+        let cases = cases.into_iter().map(|case| case.request);
+        cases
+            .chain(drawn)
+            .for_each(|request| request.write(&mut bytes));
+    };
+    write(named(), drawn::requests());
+    write(lent::cases(), lent::drawn());
     bytes
 }
 
@@ -244,8 +248,11 @@ mod tests {
 
     #[test]
     fn requests_are_read_as_they_were_written() {
-        let answered = named().into_iter().map(|case| case.request);
-        let answered = answered.chain(drawn::requests());
+        let requests_of = |cases: Vec<Case>| cases.into_iter().map(|case| case.request);
+        let answered = requests_of(named())
+            .chain(drawn::requests())
+            .chain(requests_of(lent::cases()))
+            .chain(lent::drawn());
         let one_by_one: Vec<u8> = answered.flat_map(|request| request.answer()).collect();
         assert!(answers(&requests()) == one_by_one);
     }

@@ -3,6 +3,8 @@
 //! A header line is a letter and decimal numbers below 2^64, one space before
 //! each. The payload follows at once, then the next header.
 
+use super::calls::Call;
+use super::lending;
 use super::parts::{field, line, Named};
 use super::reading;
 use crate::model::{Action, Block, Directive, Exception, PolicySet, Refusal, Rule, RuleSet};
@@ -28,6 +30,20 @@ pub enum Request {
     Timed {
         times: u64,
         rules: Vec<u8>,
+    },
+    /// A whole run, with so many bytes lent for what it prints. A file that is not
+    /// readable has a text here too, which must not matter.
+    Report {
+        readable: [bool; 2],
+        room: u64,
+        rules: Vec<u8>,
+        policy: Vec<u8>,
+    },
+    /// A call that prints, from a place of the bytes lent on.
+    Put {
+        call: Call,
+        start: u64,
+        payload: Vec<u8>,
     },
 }
 
@@ -59,6 +75,20 @@ impl Request {
                 policy,
             } => ('L', vec![*named as u64, *number], vec![rules, policy]),
             Request::Timed { times, rules } => ('T', vec![*times], vec![rules]),
+            Request::Report {
+                readable: [first, second],
+                room,
+                rules,
+                policy,
+            } => {
+                let which = u64::from(*first) + 2 * u64::from(*second);
+                ('O', vec![which, *room], vec![rules, policy])
+            }
+            Request::Put {
+                call,
+                start,
+                payload,
+            } => ('V', vec![*call as u64, *start], vec![payload]),
         };
         let payload = payloads.concat();
         assert!(payload.len() <= MOST_PAYLOAD, "too long a payload");
@@ -77,7 +107,16 @@ impl Request {
         let mut payload = Payload(&behind[1..]);
         let (letter, numbers) = header.split_once(' ').ok_or("no numbers")?;
         let numbers: Vec<u64> = numbers.split(' ').map(number).collect::<Result<_, _>>()?;
-        let request = match (letter, &numbers[..]) {
+        let request = Request::taken(letter, &numbers, &mut payload)?;
+        Ok((request, payload.0))
+    }
+
+    fn taken(
+        letter: &str,
+        numbers: &[u64],
+        payload: &mut Payload,
+    ) -> Result<Request, &'static str> {
+        Ok(match (letter, numbers) {
             ("R", [length]) => Request::Rules(payload.take(*length)?),
             ("P", [length]) => Request::Policy(payload.take(*length)?),
             ("F", [number, length]) => Request::Field {
@@ -94,9 +133,19 @@ impl Request {
                 times: *times,
                 rules: payload.take(*length)?,
             },
+            ("O", [which, room, rules, policy]) => Request::Report {
+                readable: readable(*which)?,
+                room: *room,
+                rules: payload.take(*rules)?,
+                policy: payload.take(*policy)?,
+            },
+            ("V", [which, start, length]) => Request::Put {
+                call: call(*which)?,
+                start: *start,
+                payload: payload.take(*length)?,
+            },
             _ => return Err("no such request"),
-        };
-        Ok((request, payload.0))
+        })
     }
 
     pub fn answer(&self) -> Vec<u8> {
@@ -113,6 +162,17 @@ impl Request {
                 rules,
                 policy,
             } => shown("line", line(rules, policy, *named, *number)),
+            Request::Report {
+                readable,
+                room,
+                rules,
+                policy,
+            } => lending::report(*readable, *room, [rules, policy]),
+            Request::Put {
+                call,
+                start,
+                payload,
+            } => lending::put(*call, *start, payload),
         }
     }
 }
@@ -138,6 +198,19 @@ fn named(which: u64) -> Result<Named, &'static str> {
         1 => Ok(Named::Policy),
         _ => Err("no such text"),
     }
+}
+
+/// Whether the rules can be read, by the lowest bit, and whether the policy can.
+fn readable(which: u64) -> Result<[bool; 2], &'static str> {
+    match which {
+        0..=3 => Ok([which % 2 == 1, which >= 2]),
+        _ => Err("no such files"),
+    }
+}
+
+fn call(which: u64) -> Result<Call, &'static str> {
+    let place = usize::try_from(which).map_err(|_| "no such call")?;
+    Call::ALL.get(place).copied().ok_or("no such call")
 }
 
 fn number(piece: &str) -> Result<u64, &'static str> {
@@ -252,6 +325,9 @@ mod tests {
             ("R 0 0\n", "request 1: no such request"),
             ("Q 0\n", "request 1: no such request"),
             ("L 2 0 0 0\n", "request 1: no such text"),
+            ("O 4 0 0 0\n", "request 1: no such files"),
+            ("V 9 0 0\n", "request 1: no such call"),
+            ("V 0 0\n", "request 1: no such request"),
         ] {
             let panic = std::panic::catch_unwind(|| answers(text.as_bytes())).unwrap_err();
             assert_eq!(panic.downcast_ref::<String>().unwrap(), message);
