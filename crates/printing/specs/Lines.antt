@@ -55,6 +55,7 @@ verdictFields v =
 unfoldable pub verdictLine : Verdict → List ℕ
 verdictLine v = cond (eqb (kind (v .label)) 0) (line (bytes "verdict") (bytes "conforms" ∷ [])) (line (bytes "verdict") (verdictFields v))
 
+-- the line of the total
 unfoldable pub blocksLine : ℕ → List ℕ
 blocksLine total = line (bytes "blocks") (decimal total ∷ [])
 

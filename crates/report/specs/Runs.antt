@@ -22,10 +22,12 @@ pub data File : Type 0 where
   unreadable : File
   holding : List ℕ → File
 
+-- the file of which this was read, if it could be
 abbrev pub fileOf : Bool → List ℕ → File
 fileOf true text = holding text
 fileOf false text = unreadable
 
+-- the names of the two
 abbrev pub rulesName : List ℕ
 rulesName = bytes "rules.txt"
 
@@ -36,6 +38,7 @@ policyName = bytes "policy.txt"
 abbrev pub mostBlocks : ℕ
 mostBlocks = 512
 
+-- a line for each block, in order
 abbrev pub blockLines : List (Listed Label) → List ℕ
 blockLines [] = []
 blockLines (b ∷ bs) = blockLine (kind (b .label)) (rule (b .label)) (b .block) ++ blockLines bs

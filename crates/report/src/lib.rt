@@ -15,7 +15,7 @@ ghost use Rattle.report.specs.Inner.{InForm, SetsPut, VerdictPut, Listin
 ghost use Rattle.report.specs.Runs.{Reported, fileOf, holding, mostBlocks};
 
 // "At most 512 block lines."
-pub const MOST_BLOCKS: usize = 512;
+const MOST_BLOCKS: usize = 512;
 
 // The numbers of a row: kind and rule, and two bounds for each of four fields.
 const ROW: usize = 10;
