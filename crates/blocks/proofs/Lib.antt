@@ -1,3 +1,4 @@
 pub mod Widest
+mod Lists
 pub mod OneAnswer
 pub mod Named

@@ -2,6 +2,7 @@
 use mathlib.Core.List.{[], _∷_}
 use mathlib.Core.Path.{_≡_}
 use Prim.Native.Nat.{ℕ}
+use lib.ListN.{getD}
 use Rattle.meaning.specs.Blocks as blocks
 use Rattle.meaning.specs.Fields as fields
 use Rattle.blocks.specs.declared.Block.{Block}
@@ -20,6 +21,19 @@ blockOf b = spanOf (b .source) ∷ spanOf (b .destination) ∷ spanOf (b .protoc
 -- a number for each field, in the order of the fields
 abbrev pub packetOf : Packet → fields.Packet
 packetOf p = p .source ∷ p .destination ∷ p .protocol ∷ p .port ∷ []
+
+-- the block of which these are the spans, in the order of the fields
+abbrev pub spanFrom : blocks.Span → Span
+spanFrom s = record { low = s .low; high = s .high }
+
+abbrev pub blockFrom : blocks.Block → Block
+blockFrom b =
+    record {
+      source = spanFrom (getD b 0 (blocks.whole 1));
+      destination = spanFrom (getD b 1 (blocks.whole 1));
+      protocol = spanFrom (getD b 2 (blocks.whole 1));
+      port = spanFrom (getD b 3 (blocks.whole 1));
+    }
 
 -- r is what narrowing b in field k, counted from 0, hands back: the block, and whether numbers were shared
 pub record NarrowedIn (k : ℕ) (bounds : Span) (b : Block) (r : Narrowed) : Type 0 where

@@ -7,11 +7,18 @@ ghost use mathlib.Core.Bool.{_&&_};
 ghost use mathlib.Core.Path.{_≡_};
 ghost use Prim.Native.Nat.{min, max};
 ghost use lib.Dec.{leb};
+ghost use Rattle.meaning.specs.Buffers.{bounds};
 ghost use Rattle.meaning.specs.Blocks.{within, holds, inside, widest, shares, narrowSpan};
 ghost use Rattle.meaning.specs.Fields.{fields, lowest};
 ghost use Rattle.meaning.specs.Form.{blockInForm, packetInForm};
 ghost use Rattle.blocks.specs.Inner.{rising};
 ghost use Rattle.blocks.specs.Vocabulary.{spanOf, blockOf, packetOf, NarrowedIn};
+
+// The fields of a packet.
+pub const FIELDS: usize = 4;
+
+// The numbers of a block: two bounds for each field.
+pub const BOUNDS: usize = 2 * FIELDS;
 
 // The numbers from low to high, both included; none if low is above high.
 pub struct Span {
@@ -57,6 +64,22 @@ impl Packet {
         Packet::LOWEST
     }
 
+    // The packet with these numbers, in the order of the fields.
+    pub fn of_numbers(numbers: [u32; FIELDS]) -> Packet
+        ensures { λ r. ⌜ packetOf r ≡ numbers ⌝ }
+    {
+        let source = numbers[0];
+        let destination = numbers[1];
+        let protocol = numbers[2];
+        let port = numbers[3];
+        Packet {
+            source,
+            destination,
+            protocol,
+            port,
+        }
+    }
+
     // Whether the packet is in form: no number past its field's largest.
     pub fn in_form(self) -> bool
         ensures { λ r. ⌜ r ≡ packetInForm fields (packetOf self) ⌝ }
@@ -88,6 +111,50 @@ impl Block {
         ensures { λ r. ⌜ blockOf r ≡ widest fields ⌝ }
     {
         Block::WIDEST
+    }
+
+    // The low and the high bound of each field, in the order of the fields.
+    pub fn bounds(self) -> [u32; BOUNDS]
+        ensures { λ r. ⌜ r ≡ bounds (blockOf self) ⌝ }
+    {
+        [
+            self.source.low,
+            self.source.high,
+            self.destination.low,
+            self.destination.high,
+            self.protocol.low,
+            self.protocol.high,
+            self.port.low,
+            self.port.high,
+        ]
+    }
+
+    // The block with these bounds, a low and a high one for each field.
+    pub fn of_bounds(numbers: [u32; BOUNDS]) -> Block
+        ensures { λ r. ⌜ bounds (blockOf r) ≡ numbers ⌝ }
+    {
+        let source = Span {
+            low: numbers[0],
+            high: numbers[1],
+        };
+        let destination = Span {
+            low: numbers[2],
+            high: numbers[3],
+        };
+        let protocol = Span {
+            low: numbers[4],
+            high: numbers[5],
+        };
+        let port = Span {
+            low: numbers[6],
+            high: numbers[7],
+        };
+        Block {
+            source,
+            destination,
+            protocol,
+            port,
+        }
     }
 
     // Whether the block holds the packet: each span its number.

@@ -16,11 +16,12 @@ use Rattle.meaning.specs.Form.{Exception, naming, directivesFrom}
 use Rattle.meaning.specs.Policies.{Directive, excepted, asks}
 use Rattle.meaning.specs.Records.{someOf}
 use Rattle.meaning.specs.Rules.{Action, opposite, sameAction, Rule}
+use Rattle.meaning.specs.Sizes.{maskDigits, firstOwner}
 use Rattle.cells.specs.Cells.{freeFrom, askedBy}
-use Rattle.cells.specs.Masks.{mask}
+use Rattle.layout.specs.Masks.{mask}
 use Rattle.cells.specs.Words.{namesSuch}
 use Rattle.cells.proofs.Freeing.{free-none}
-use Rattle.cells.proofs.MaskLaws.{digit, lowest-digit, other-digits, mask-and, mask-some}
+use Rattle.layout.proofs.MaskLaws.{digit, lowest-digit, other-digits, mask-and, mask-some}
 
 digit-is : (b : Bool) → eqb (digit b) 1 ≡ b
 digit-is true = refl
@@ -101,7 +102,7 @@ module _ (p : Packet) where
   module _ (test : Action → Block → Bool) (words : List ℕ) (es : List Exception) where
     -- a directive that passes a test, and of which no exception holds p
     free-directive : (m t : ℕ) (ds : List Rule) → length ds ≤ m
-        → ((j : ℕ) → j < length ds → getD words (4 + (t + j)) 0 ≡ mask (λ (e : Exception). eqb (e .directive) (suc (t + j))) es)
+        → ((j : ℕ) → j < length ds → getD words (firstOwner + (t + j)) 0 ≡ mask (λ (e : Exception). eqb (e .directive) (suc (t + j))) es)
         → freeFrom m t words (mask at-exception es) (mask (λ (d : Rule). test (d .action) (d .block)) ds)
         ≡ someOf (λ (d : Directive). test (d .action) (d .block) && not (excepted d p)) (directivesFrom (suc t) ds es)
     unfolding mask freeFrom someOf directivesFrom excepted
@@ -109,13 +110,13 @@ module _ (p : Packet) where
     free-directive zero t (d ∷ ds) h each = absurd (omega arith)
     free-directive (suc m) t (d ∷ ds) h each =
         let here : t + 0 ≡ t = omega arith in
-        let own : getD words (4 + t) 0 ≡ mask (λ (e : Exception). eqb (e .directive) (suc t)) es =
-        ap (λ (j : ℕ). getD words (4 + j) 0) (sym here) ∙ each 0 (omega arith) ∙ ap (λ (j : ℕ). mask (λ (e : Exception). eqb (e .directive) (suc j)) es) here in
+        let own : getD words (firstOwner + t) 0 ≡ mask (λ (e : Exception). eqb (e .directive) (suc t)) es =
+        ap (λ (j : ℕ). getD words (firstOwner + j) 0) (sym here) ∙ each 0 (omega arith) ∙ ap (λ (j : ℕ). mask (λ (e : Exception). eqb (e .directive) (suc j)) es) here in
         let later =
         free-directive m (t + 1) ds (omega arith)
         (λ j l.
         let next : t + 1 + j ≡ t + suc j = omega arith in
-        ap (λ (i : ℕ). getD words (4 + i) 0) next ∙ each (suc j) (omega arith) ∙ ap (λ (i : ℕ). mask (λ (e : Exception). eqb (e .directive) (suc i)) es) (sym next)) in
+        ap (λ (i : ℕ). getD words (firstOwner + i) 0) next ∙ each (suc j) (omega arith) ∙ ap (λ (i : ℕ). mask (λ (e : Exception). eqb (e .directive) (suc i)) es) (sym next)) in
         rw (lowest-digit (test (d .action) (d .block)) (mask (λ (r : Rule). test (r .action) (r .block)) ds))
         (rw (other-digits (test (d .action) (d .block)) (mask (λ (r : Rule). test (r .action) (r .block)) ds))
         (rw own
@@ -158,8 +159,8 @@ module _ (p : Packet) where
       by false o false = refl
 
   -- what is asked for, by masks
-  pub asked-by-masks : (a : Action) (words : List ℕ) (ds : List Rule) (es : List Exception) (turning own : ℕ) → length ds ≤ 64
-      → ((j : ℕ) → j < length ds → getD words (4 + j) 0 ≡ mask (λ (e : Exception). eqb (e .directive) (suc j)) es)
+  pub asked-by-masks : (a : Action) (words : List ℕ) (ds : List Rule) (es : List Exception) (turning own : ℕ) → length ds ≤ maskDigits
+      → ((j : ℕ) → j < length ds → getD words (firstOwner + j) 0 ≡ mask (λ (e : Exception). eqb (e .directive) (suc j)) es)
       → turning ≡ mask (λ (e : Exception). namesSuch (λ (d : Rule). sameAction a (opposite (d .action))) 1 ds (e .directive)) es
       → own ≡ mask (λ (d : Rule). sameAction a (d .action) && holds (d .block) p) ds
       → askedBy words (mask at-exception es) turning own ≡ someOf (λ (d : Directive). asks d a p) (directivesFrom 1 ds es)
@@ -171,9 +172,9 @@ module _ (p : Packet) where
       ∙ mask-some (λ (e : Exception). at-exception e && namesSuch (λ (d : Rule). sameAction a (opposite (d .action))) 1 ds (e .directive)) es
       ∙ exception-asks (λ (b : Action). sameAction a (opposite b)) 1 ds es)
       i
-      || (ap (freeFrom 64 0 words (mask at-exception es)) is-own
-      ∙ free-directive (λ (b : Action) (c : Block). sameAction a b && holds c p) words es 64 0 ds few
-      (λ j l. let none : 0 + j ≡ j = omega arith in ap (λ (k : ℕ). getD words (4 + k) 0) none ∙ each j l ∙ ap (λ (k : ℕ). mask (λ (e : Exception). eqb (e .directive) (suc k)) es) (sym none)))
+      || (ap (freeFrom maskDigits 0 words (mask at-exception es)) is-own
+      ∙ free-directive (λ (b : Action) (c : Block). sameAction a b && holds c p) words es maskDigits 0 ds few
+      (λ j l. let none : 0 + j ≡ j = omega arith in ap (λ (k : ℕ). getD words (firstOwner + k) 0) none ∙ each j l ∙ ap (λ (k : ℕ). mask (λ (e : Exception). eqb (e .directive) (suc k)) es) (sym none)))
       i)
       ∙ sym
       (some-or (λ (d : Directive). excepted d p && sameAction a (opposite (d .action))) (λ (d : Directive). (sameAction a (d .action) && holds (d .block) p) && not (excepted d p))

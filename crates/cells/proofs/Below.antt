@@ -13,6 +13,7 @@ use lib.Seq.{drop-cons}
 use Rattle.meaning.specs.Fields.{range-none, range-more}
 use Rattle.meaning.specs.Labels.{good}
 use Rattle.meaning.specs.Listings.{Agree}
+use Rattle.meaning.specs.Sizes.{maskDigits}
 use Rattle.meaning.proofs.ListingUnique.{agree-at}
 use Rattle.cells.specs.declared.Left.{Left}
 use Rattle.cells.specs.Cells.{Chart, freeFrom, askedBy, accepting, leftLabel, spot, leftAt, step, cellLabel, below, Same, Nothing}
@@ -31,7 +32,7 @@ nothing-asked : (words : List ℕ) (e turning own : ℕ) → e ≡ 0 → own ≡
 unfolding askedBy
 nothing-asked words e turning own z o =
     let none : bitAnd e turning ≡ 0 = ap (λ (x : ℕ). bitAnd x turning) z ∙ and-zero-l turning in
-    ap (λ (b : Bool). b || freeFrom 64 0 words e own) (le-ltb 0 (bitAnd e turning) (omega arith)) ∙ ap (freeFrom 64 0 words e) o ∙ free-none 64 0 words e
+    ap (λ (b : Bool). b || freeFrom maskDigits 0 words e own) (le-ltb 0 (bitAnd e turning) (omega arith)) ∙ ap (freeFrom maskDigits 0 words e) o ∙ free-none maskDigits 0 words e
 
 -- and the label is good
 nothing-good : (words : List ℕ) (s : Left) → Nothing s → leftLabel words s ≡ good

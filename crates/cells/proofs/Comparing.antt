@@ -5,6 +5,7 @@ use Prim.Native.Nat.{ℕ, _+_, _≤_, _<_}
 use native.Mathlib.Omega.{arith}
 use native.Mathlib.Decide.{decLt}
 use lib.ListN.{length, getD}
+use Rattle.meaning.specs.Sizes.{mostStrips}
 use Rattle.cells.specs.declared.Left.{Left}
 use Rattle.cells.specs.Cells.{Chart, Formed, leftLabel, step, Same, Tells}
 use Rattle.cells.proofs.Below.{same-last, differ-last, same-strips, differ-strip}
@@ -13,7 +14,7 @@ use Rattle.cells.proofs.Below.{same-last, differ-last, same-strips, dif
 pub record Compared (w : Chart) (field : ℕ) (a b : Left) (count strip : ℕ) (x y : Left) : Type 0 where
   pub is-field : field < length (w .counts)
   pub is-count : count ≡ getD (w .counts) field 0
-  pub few : count ≤ 321
+  pub few : count ≤ mostStrips
   pub within : strip ≤ count
   pub agreed : (i : ℕ) → i < strip → Same w (field + 1) (step w field a i) (step w field b i)
   pub last-agreed : Same w (field + 1) x y

@@ -12,9 +12,9 @@ use lib.ListN.{length}
 use Rattle.meaning.specs.Labels.{judged}
 use Rattle.meaning.specs.Records.{Found, nothing, found, firstFrom}
 use Rattle.meaning.specs.Rules.{Action, accept, deny, sameAction, Rule}
-use Rattle.cells.specs.Masks.{mask}
+use Rattle.layout.specs.Masks.{mask}
 use Rattle.cells.specs.Words.{accepts}
-use Rattle.cells.proofs.MaskLaws.{digit, trailing-digit}
+use Rattle.layout.proofs.MaskLaws.{digit, trailing-digit}
 
 -- a rule without its block: a label looks at the action alone
 abbrev pub bare : Action → Rule

@@ -11,6 +11,7 @@ use lib.Bits.{bitAnd, and-step, and-self, and-le-r}
 use lib.Count.{trailingZeros, under}
 use lib.Dec.{eqb}
 use lib.ListN.{getD}
+use Rattle.meaning.specs.Sizes.{maskDigits, firstOwner}
 use Rattle.cells.specs.Cells.{freeFrom, askedBy}
 
 -- where no directive is left, none is without exceptions
@@ -37,7 +38,7 @@ cleared-even n ne o =
 
 -- directive t has no exception in e
 abbrev free : List ℕ → ℕ → ℕ → Bool
-free words e t = eqb (bitAnd e (getD words (4 + t) 0)) 0
+free words e t = eqb (bitAnd e (getD words (firstOwner + t) 0)) 0
 
 -- the first directive is looked at: it is within m digits, and the others are left
 record Looked (m t first : ℕ) (words : List ℕ) (e rest : ℕ) : Type 0 where
@@ -78,42 +79,42 @@ looked (suc m) t words e rest l ne =
 
 -- before the rest of the directives
 pub record Freeing (words : List ℕ) (e turning own rest : ℕ) : Type 0 where
-  pub low : rest < 2 ^ 64
-  pub so-far : freeFrom 64 0 words e rest ≡ askedBy words e turning own
+  pub low : rest < 2 ^ maskDigits
+  pub so-far : freeFrom maskDigits 0 words e rest ≡ askedBy words e turning own
 
 module _ (words : List ℕ) (e turning own : ℕ) where
   -- an exception asks
   pub asked-by-exception : ¬ (bitAnd e turning ≡ 0) → true ≡ askedBy words e turning own
   unfolding askedBy
-  asked-by-exception ne = sym (ap (λ (b : Bool). b || freeFrom 64 0 words e own) (lt-ltb 0 (bitAnd e turning) (omega arith)))
+  asked-by-exception ne = sym (ap (λ (b : Bool). b || freeFrom maskDigits 0 words e own) (lt-ltb 0 (bitAnd e turning) (omega arith)))
 
-  pub freeing-start : own < 2 ^ 64 → bitAnd e turning ≡ 0 → Freeing words e turning own own
+  pub freeing-start : own < 2 ^ maskDigits → bitAnd e turning ≡ 0 → Freeing words e turning own own
   unfolding askedBy
-  freeing-start h z = record { low = h; so-far = sym (ap (λ (b : Bool). b || freeFrom 64 0 words e own) (le-ltb 0 (bitAnd e turning) (omega arith))) }
+  freeing-start h z = record { low = h; so-far = sym (ap (λ (b : Bool). b || freeFrom maskDigits 0 words e own) (le-ltb 0 (bitAnd e turning) (omega arith))) }
 
   module _ (rest : ℕ) (z : Freeing words e turning own rest) where
-    module _ (first : ℕ) (is-first : first ≡ trailingZeros 64 rest) (ne : ¬ (rest ≡ 0)) where
-      pub freeing-within : first < 64
-      freeing-within = omega (arith, is-first, looked 64 0 words e rest (z .low) ne .within)
+    module _ (first : ℕ) (is-first : first ≡ trailingZeros maskDigits rest) (ne : ¬ (rest ≡ 0)) where
+      pub freeing-within : first < maskDigits
+      freeing-within = omega (arith, is-first, looked maskDigits 0 words e rest (z .low) ne .within)
 
       -- fewer are left
       pub freeing-less : bitAnd rest (rest - 1) < rest
       freeing-less = omega (arith, and-le-r rest (rest - 1))
 
-      others : askedBy words e turning own ≡ (free words e first || freeFrom 64 0 words e (cleared rest))
+      others : askedBy words e turning own ≡ (free words e first || freeFrom maskDigits 0 words e (cleared rest))
       others =
-          let at : 0 + trailingZeros 64 rest ≡ first = omega arith in
-          sym (z .so-far) ∙ looked 64 0 words e rest (z .low) ne .others ∙ ap (λ (j : ℕ). free words e j || freeFrom 64 0 words e (cleared rest)) at
+          let at : 0 + trailingZeros maskDigits rest ≡ first = omega arith in
+          sym (z .so-far) ∙ looked maskDigits 0 words e rest (z .low) ne .others ∙ ap (λ (j : ℕ). free words e j || freeFrom maskDigits 0 words e (cleared rest)) at
 
-      pub freeing-found : bitAnd e (getD words (4 + first) 0) ≡ 0 → true ≡ askedBy words e turning own
-      freeing-found f = sym (others ∙ ap (λ (b : Bool). b || freeFrom 64 0 words e (cleared rest)) (eq-eqb _ 0 f))
+      pub freeing-found : bitAnd e (getD words (firstOwner + first) 0) ≡ 0 → true ≡ askedBy words e turning own
+      freeing-found f = sym (others ∙ ap (λ (b : Bool). b || freeFrom maskDigits 0 words e (cleared rest)) (eq-eqb _ 0 f))
 
-      pub freeing-more : ¬ (bitAnd e (getD words (4 + first) 0) ≡ 0) → Freeing words e turning own (bitAnd rest (rest - 1))
+      pub freeing-more : ¬ (bitAnd e (getD words (firstOwner + first) 0) ≡ 0) → Freeing words e turning own (bitAnd rest (rest - 1))
       freeing-more f =
           record {
             low = omega (arith, freeing-less, z .low);
-            so-far = sym (others ∙ ap (λ (b : Bool). b || freeFrom 64 0 words e (cleared rest)) (ne-eqb _ 0 f));
+            so-far = sym (others ∙ ap (λ (b : Bool). b || freeFrom maskDigits 0 words e (cleared rest)) (ne-eqb _ 0 f));
           }
 
     pub freeing-end : rest ≡ 0 → false ≡ askedBy words e turning own
-    freeing-end n = sym (free-none 64 0 words e) ∙ ap (freeFrom 64 0 words e) (sym n) ∙ z .so-far
+    freeing-end n = sym (free-none maskDigits 0 words e) ∙ ap (freeFrom maskDigits 0 words e) (sym n) ∙ z .so-far

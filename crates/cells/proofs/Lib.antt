@@ -1,5 +1,4 @@
 -- The laws of cells.
-pub mod MaskLaws
 pub mod Telling
 pub mod Below
 mod Labels

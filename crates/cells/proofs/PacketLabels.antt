@@ -13,14 +13,15 @@ use Rattle.meaning.specs.Labels.{judged, label}
 use Rattle.meaning.specs.Policies.{Directive, asks, asked}
 use Rattle.meaning.specs.Records.{someOf}
 use Rattle.meaning.specs.Rules.{Action, accept, deny, opposite, sameAction, Rule, deciding}
+use Rattle.meaning.specs.Sizes.{maskDigits}
 use Rattle.meaning.proofs.RecordsEvery.{every-of}
 use Rattle.cells.specs.declared.Left.{Left}
 use Rattle.cells.specs.Cells.{labelBy, accepting, acceptAsked, denyAsked, leftLabel}
-use Rattle.cells.specs.Masks.{mask}
+use Rattle.layout.specs.Masks.{mask}
 use Rattle.cells.specs.Words.{accepts, namesSuch, WordsOf}
 use Rattle.cells.proofs.AskingDirectives.{asked-by-masks}
 use Rattle.cells.proofs.FirstRules.{judged-bared, decided, bared, first-decided}
-use Rattle.cells.proofs.MaskLaws.{mask-same, mask-and, mask-xor, oneOf}
+use Rattle.layout.proofs.MaskLaws.{mask-same, mask-and, mask-xor, oneOf}
 
 -- what is left where all that holds p is left
 abbrev pub leftAtPacket : List Rule → List Rule → List Exception → Packet → Left
@@ -36,8 +37,8 @@ module _
     (exceptions : List Exception)
     (words : List ℕ)
     (p : Packet)
-    (few-rules : length rules ≤ 64)
-    (few-directives : length directives ≤ 64)
+    (few-rules : length rules ≤ maskDigits)
+    (few-directives : length directives ≤ maskDigits)
     (front : WordsOf rules directives exceptions words)
   where
     abbrev all : List Directive
@@ -104,11 +105,11 @@ module _
         by accept = refl
         by deny = refl
 
-    first-is : decided 64 1 (here .rules) (bitAnd (here .rules) (getD words 0 0)) ≡ bared (deciding rules p)
+    first-is : decided maskDigits 1 (here .rules) (bitAnd (here .rules) (getD words 0 0)) ≡ bared (deciding rules p)
     unfolding deciding
     first-is =
-        ap (decided 64 1 (here .rules)) (ap (bitAnd (here .rules)) (front .accepting-rules) ∙ mask-and (λ (r : Rule). holds (r .block) p) accepts rules)
-        ∙ first-decided 64 1 (λ (r : Rule). holds (r .block) p) rules few-rules
+        ap (decided maskDigits 1 (here .rules)) (ap (bitAnd (here .rules)) (front .accepting-rules) ∙ mask-and (λ (r : Rule). holds (r .block) p) accepts rules)
+        ∙ first-decided maskDigits 1 (λ (r : Rule). holds (r .block) p) rules few-rules
 
     pub packet-label : leftLabel words here ≡ label rules (record { directives = all }) p
     unfolding leftLabel labelBy label asked

@@ -11,11 +11,12 @@ use Rattle.meaning.specs.Labels.{Label, kind, rule, judged}
 use Rattle.meaning.specs.Listings.{Agree}
 use Rattle.meaning.specs.Records.{nothing, found}
 use Rattle.meaning.specs.Rules.{accept, deny}
+use Rattle.meaning.specs.Sizes.{mostStrips, maskKinds, maskDigits, fieldMasks, firstOwner, frontWords}
 use Rattle.cells.specs.declared.Left.{Left}
 
 -- What a walk looks at. The words are: which rules accept; which directives ask for accept; the exceptions of the directives that
--- accept, and of those that deny; for each of 64 directives its exceptions; and from 68 on for each of 321 strips of each field the
--- rules, directives and exceptions whose span holds it. The counts are the fields' numbers of strips.
+-- accept, and of those that deny; the exceptions of each directive, for as many as a mask has digits; and behind these front words for
+-- each strip of each field the rules, directives and exceptions whose span holds it. The counts are the fields' numbers of strips.
 pub record Chart : Type 0 where
   pub words : List ℕ
   pub counts : List ℕ
@@ -25,17 +26,17 @@ chart words counts = record { words = words; counts = counts }
 
 -- there are words for every strip, and no field has more strips than there is room for
 pub record Formed (w : Chart) : Type 0 where
-  pub long : length (w .words) ≡ 963 * length (w .counts) + 68
-  pub few : (field : ℕ) → getD (w .counts) field 0 ≤ 321
+  pub long : length (w .words) ≡ fieldMasks * length (w .counts) + frontWords
+  pub few : (field : ℕ) → getD (w .counts) field 0 ≤ mostStrips
 
 -- a directive in `rest` has no exception in e; the lowest digit of `rest` is directive t, counted from 0, and there are m at most
 unfoldable pub freeFrom : ℕ → ℕ → List ℕ → ℕ → ℕ → Bool
 freeFrom zero t words e rest = false
-freeFrom (suc m) t words e rest = (eqb (rest % 2) 1 && eqb (bitAnd e (getD words (4 + t) 0)) 0) || freeFrom m (t + 1) words e (rest / 2)
+freeFrom (suc m) t words e rest = (eqb (rest % 2) 1 && eqb (bitAnd e (getD words (firstOwner + t) 0)) 0) || freeFrom m (t + 1) words e (rest / 2)
 
 -- an action is asked for: by an exception in e of a directive that asks for the opposite, or by a directive of its own without one
 unfoldable pub askedBy : List ℕ → ℕ → ℕ → ℕ → Bool
-askedBy words e turning own = ltb 0 (bitAnd e turning) || freeFrom 64 0 words e own
+askedBy words e turning own = ltb 0 (bitAnd e turning) || freeFrom maskDigits 0 words e own
 
 -- the label by whether accept and deny are asked for, the rules left, the first of these, and the first of these that accepts
 unfoldable pub labelBy : Bool → Bool → ℕ → ℕ → ℕ → Label
@@ -55,8 +56,8 @@ denyAsked words s = askedBy words (s .exceptions) (getD words 2 0) (bitXor (s .d
 -- the label that what is left gives
 unfoldable pub leftLabel : List ℕ → Left → Label
 leftLabel words s =
-    labelBy (acceptAsked words s) (denyAsked words s) (s .rules) (trailingZeros 64 (s .rules))
-    (trailingZeros 64 (bitAnd (s .rules) (getD words 0 0)))
+    labelBy (acceptAsked words s) (denyAsked words s) (s .rules) (trailingZeros maskDigits (s .rules))
+    (trailingZeros maskDigits (bitAnd (s .rules) (getD words 0 0)))
 
 -- a label as one number: its kind, and eight times its rule
 abbrev pub labelNumber : Label → ℕ
@@ -64,7 +65,7 @@ labelNumber l = kind l + 8 * rule l
 
 -- where the words of a strip of a field begin
 abbrev pub spot : ℕ → ℕ → ℕ
-spot field strip = 3 * (field * 321 + strip) + 68
+spot field strip = maskKinds * (field * mostStrips + strip) + frontWords
 
 -- what is left of s at a strip of a field
 unfoldable pub leftAt : List ℕ → ℕ → ℕ → Left → Left

@@ -1,38 +1,20 @@
 // Cells: what is left of the rules, directives and exceptions from strip to strip, the label that this gives, and whether two
 // such sets give the same labels everywhere below a field. It works on masks and strips by number and knows no address. The
-// words of a walk and the counts of strips are lent; `specs/Cells` says what stands where. `alike` is written once for all fields
-// and stops at the first cell with another label.
+// words of a walk and the counts of strips are lent; `layout` says what stands where. `alike` is written once for all fields and stops
+// at the first cell with another label.
 
+use layout::ACCEPTING_DIRECTIVES;
+use layout::ACCEPTING_RULES;
+use layout::FIRST_MASK;
+use layout::MOST_STRIPS;
+use layout::OF_ACCEPTING;
+use layout::OF_DENYING;
+use layout::OF_EACH;
 ghost use mathlib.Core.Path.{_≡_};
 ghost use Prim.Native.Nat.{ℕ, _+_, _*_, _≤_, _<_};
 ghost use lib.ListN.{length};
-ghost use Rattle.cells.specs.Cells.{chart, Formed, labelNumber, askedBy, leftLabel, leftAt, Same, Tells, Nothing};
-
-// The fields of a packet.
-pub const FIELDS: usize = 4;
-
-// The most strips of a field: one from 0 on, and two more for each block.
-pub const MOST_STRIPS: usize = 2
-    * (sets::MOST_RULES + sets::MOST_DIRECTIVES + sets::MOST_EXCEPTIONS)
-    + 1;
-
-// The places of a field: where each strip begins, and the size.
-pub const FIELD_PLACES: usize = MOST_STRIPS + 1;
-
-// Where stands what among the first words of a walk: which rules accept; which directives ask for accept; the exceptions of these
-// directives, and those of the others; from there on the exceptions of each directive, for as many as a mask has digits; and the
-// masks.
-pub const ACCEPTING_RULES: usize = 0;
-
-pub const ACCEPTING_DIRECTIVES: usize = 1;
-
-pub const OF_ACCEPTING: usize = 2;
-
-pub const OF_DENYING: usize = 3;
-
-pub const OF_EACH: usize = 4;
-
-pub const FIRST_MASK: usize = OF_EACH + 64;
+ghost use Rattle.meaning.specs.Sizes.{frontWords};
+ghost use Rattle.cells.specs.Cells.{chart, Formed, labelNumber, askedBy, leftLabel, spot, leftAt, Same, Tells, Nothing};
 
 // The rules, directives and exceptions that are left, a binary digit for each.
 pub struct Left {
@@ -81,7 +63,7 @@ pub fn alike(field: usize, a: Left, b: Left, words: &[u64], counts: &[usize]) ->
 
 // What is left of the sets at a strip of a field.
 pub fn left_at(field: usize, strip: usize, left: Left, words: &[u64]) -> Left
-    requires { ⌜ 3 * (field * 321 + strip) + 70 < length (now words) ⌝ }
+    requires { ⌜ spot field strip + 2 < length (now words) ⌝ }
     ensures { λ r. ⌜ r ≡ leftAt (now (words .entry)) field strip left ⌝ }
 {
     let at = 3 * (field * MOST_STRIPS + strip) + FIRST_MASK;
@@ -95,7 +77,7 @@ pub fn left_at(field: usize, strip: usize, left: Left, words: &[u64]) -> Left
 // The label that these rules, directives and exceptions give, as one number: its kind, and eight times its rule. A walk can so hold
 // what is left, and its label, without storing it.
 pub fn label_number(rules: u64, directives: u64, exceptions: u64, words: &[u64]) -> u32
-    requires { ⌜ 68 ≤ length (now words) ⌝ }
+    requires { ⌜ frontWords ≤ length (now words) ⌝ }
     ensures { λ r. ⌜ r ≡ labelNumber (leftLabel (now (words .entry)) (record { rules = rules; directives = directives; exceptions = exceptions })) ⌝ }
 {
     let own = directives & words[ACCEPTING_DIRECTIVES];
@@ -134,7 +116,7 @@ pub fn label_number(rules: u64, directives: u64, exceptions: u64, words: &[u64])
 // Whether an action is asked for: by one of these exceptions, if one belongs to a directive that asks for the opposite, or by one
 // of these directives of its own, if one has none of the exceptions.
 fn asked(exceptions: u64, turning: u64, own: u64, words: &[u64]) -> bool
-    requires { ⌜ 68 ≤ length (now words) ⌝ }
+    requires { ⌜ frontWords ≤ length (now words) ⌝ }
     ensures { λ r. ⌜ r ≡ askedBy (now (words .entry)) exceptions turning own ⌝ }
 {
     if exceptions & turning != 0 {
@@ -160,7 +142,7 @@ fn wide(x: u32) -> usize
 
 // Whether a and b give the same label.
 fn same_label(a: Left, b: Left, words: &[u64]) -> bool
-    requires { ⌜ 68 ≤ length (now words) ⌝ }
+    requires { ⌜ frontWords ≤ length (now words) ⌝ }
     ensures { λ r. ⌜ Tells r (leftLabel (now (words .entry)) a ≡ leftLabel (now (words .entry)) b) ⌝ }
 {
     let number = label_number(a.rules, a.directives, a.exceptions, words);

@@ -11,22 +11,24 @@ use Rattle.meaning.specs.Form as form
 use Rattle.meaning.specs.Labels.{label}
 use Rattle.meaning.specs.Rules as rules
 use Rattle.meaning.specs.Strips.{Cut, ByCells}
+use Rattle.meaning.specs.Sizes.{maskDigits, firstOwner, frontWords, fieldMasks}
 use Rattle.sets.specs.declared.Policy.{Policy}
 use Rattle.sets.specs.declared.Rules.{Rules}
 use Rattle.sets.specs.Vocabulary.{policySetOf}
 use Rattle.cells.specs.Cells.{chart, leftLabel, cellLabel}
 use Rattle.cells.specs.Words.{WordsOf}
-use Rattle.cells.proofs.MaskLaws.{mask-map}
+use Rattle.layout.proofs.MaskLaws.{mask-map}
 use Rattle.cells.proofs.PacketLabels.{leftAtPacket, packet-label}
-use Rattle.charts.specs.Charted.{rulesOf, ruleBlocks, directiveBlocks, exceptionBlocks, FieldsCharted, Limited, Charted}
+use Rattle.bounds.specs.SetBlocks.{rulesOf, ruleBlocks, directiveBlocks, exceptionBlocks, Limited}
+use Rattle.charts.specs.Charted.{FieldsCharted, Charted}
 use Rattle.sets.specs.Inner.{directivesOf, exceptionsOf}
-use Rattle.charts.proofs.Counted.{all-four}
+use Rattle.bounds.proofs.Counted.{all-shaped}
 use Rattle.charts.proofs.Cuts.{cutsOf}
 use Rattle.charts.proofs.Lefts.{everything, leftBy, MasksBehind, left-in-all}
 use Rattle.charts.proofs.Parts.{parts-all}
 
 -- the first words are what they are in front
-words-in-front : (rs ds : List rules.Rule) (es : List form.Exception) (front masks : List ℕ) → length front ≡ 68 → length ds ≤ 64 → WordsOf rs ds es front
+words-in-front : (rs ds : List rules.Rule) (es : List form.Exception) (front masks : List ℕ) → length front ≡ frontWords → length ds ≤ maskDigits → WordsOf rs ds es front
     → WordsOf rs ds es (front ++ masks)
 words-in-front rs ds es front masks long few w =
     record {
@@ -34,7 +36,7 @@ words-in-front rs ds es front masks long few w =
       accepting-directives = List·getD-append front masks 0 1 (omega arith) ∙ w .accepting-directives;
       of-accepting = List·getD-append front masks 0 2 (omega arith) ∙ w .of-accepting;
       of-denying = List·getD-append front masks 0 3 (omega arith) ∙ w .of-denying;
-      of-each = λ t h. List·getD-append front masks 0 (4 + t) (omega arith) ∙ w .of-each t h;
+      of-each = λ t h. List·getD-append front masks 0 (firstOwner + t) (omega arith) ∙ w .of-each t h;
     }
 
 module _ {r : Rules} {p : Policy} {words counts places : List ℕ} (limited : Limited r p) (c : Charted r p words counts places) where
@@ -52,7 +54,7 @@ module _ {r : Rules} {p : Policy} {words counts places : List ℕ} (limited : Li
   -- the masks stand behind the front
   behind : MasksBehind words (c .masks)
   behind j =
-      ap (λ (ws : List ℕ). getD ws (68 + j) 0) (c .words-are)
+      ap (λ (ws : List ℕ). getD ws (frontWords + j) 0) (c .words-are)
       ∙ ap (λ (k : ℕ). getD (c .front ++ c .masks) (k + j) 0) (sym (c .front-long))
       ∙ getD-append-add (c .front) (c .masks) j 0
 
@@ -69,16 +71,16 @@ module _ {r : Rules} {p : Policy} {words counts places : List ℕ} (limited : Li
   pub cell-labels : ByCells cuts (cellLabel (chart words counts) 0 everything) (label (rulesOf r) (form.policyOf (policySetOf p)))
   unfolding form.policyOf
   cell-labels cell q lies =
-      let few-rules : length (ruleBlocks r) ≤ 64 = omega (arith, c .counted .rules, limited .few-rules) in
-      let few-directives : length (directiveBlocks p) ≤ 64 = omega (arith, c .counted .directives, limited .few-directives) in
-      let few-exceptions : length (exceptionBlocks p) ≤ 64 = omega (arith, c .counted .exceptions, limited .few-exceptions) in
-      let rules-few : length (rulesOf r) ≤ 64 = omega (arith, length-map (rulesOf r) (λ (x : rules.Rule). x .block)) in
-      let directives-few : length (directivesOf p) ≤ 64 = omega (arith, length-map (directivesOf p) (λ (x : rules.Rule). x .block)) in
+      let few-rules : length (ruleBlocks r) ≤ maskDigits = omega (arith, c .counted .rules, limited .few-rules) in
+      let few-directives : length (directiveBlocks p) ≤ maskDigits = omega (arith, c .counted .directives, limited .few-directives) in
+      let few-exceptions : length (exceptionBlocks p) ≤ maskDigits = omega (arith, c .counted .exceptions, limited .few-exceptions) in
+      let rules-few : length (rulesOf r) ≤ maskDigits = omega (arith, length-map (rulesOf r) (λ (x : rules.Rule). x .block)) in
+      let directives-few : length (directivesOf p) ≤ maskDigits = omega (arith, length-map (directivesOf p) (λ (x : rules.Rule). x .block)) in
       let front : WordsOf (rulesOf r) (directivesOf p) (exceptionsOf p) words =
       subst (WordsOf (rulesOf r) (directivesOf p) (exceptionsOf p)) (sym (c .words-are))
       (words-in-front (rulesOf r) (directivesOf p) (exceptionsOf p) (c .front) (c .masks) (c .front-long) directives-few (c .front-words)) in
       sym
       (ap (leftLabel words)
-      (left-in-all (c .numbers) words counts (c .masks) behind (ruleBlocks r) (directiveBlocks p) (exceptionBlocks p) (all-four r p) (c .numbered) fieldsCharted refl few-rules few-directives few-exceptions (parts-all 963 (c .masks)) lies
+      (left-in-all (c .numbers) words counts (c .masks) behind (ruleBlocks r) (directiveBlocks p) (exceptionBlocks p) (all-shaped r p) (c .numbered) fieldsCharted refl few-rules few-directives few-exceptions (parts-all fieldMasks (c .masks)) lies
       ∙ by-records q)
       ∙ packet-label (rulesOf r) (directivesOf p) (exceptionsOf p) words q rules-few directives-few front)

@@ -1,4 +1,4 @@
--- The places of a chart give the low corner of a cell, and the numbers of a block of strips. Assumes nothing.
+-- The places of a chart: where each strip begins and ends, and the low corner of a cell. Assumes nothing.
 use mathlib.Core.Path.{_≡_, refl, sym, ap, _∙_}
 use mathlib.Core.List.{List, [], _∷_}
 use Prim.Native.Nat.{ℕ, zero, suc, _+_, _*_, _≤_, _<_}
@@ -9,6 +9,7 @@ use lib.ListN.{length, getD, List·getD-append, List·getD-eq-default}
 use lib.Seq.{getD-take, getD-at}
 use Rattle.meaning.specs.Fields.{Packet, InRange, range-none, range-more}
 use Rattle.meaning.specs.Strips.{place, corner}
+use Rattle.meaning.specs.Sizes.{fieldPlaces}
 use Rattle.meaning.proofs.StripCells.{place-size}
 use Rattle.strips.specs.Charts.{ChartedField}
 use Rattle.charts.specs.Charted.{FieldsCharted, charted-none, charted-more}
@@ -27,39 +28,39 @@ module _ {numbers : List ℕ} {field n rules directives exceptions : ℕ} {masks
   pub place-charted : (i : ℕ) → i ≤ count → getD places i 0 ≡ place (fieldCut c) i
   place-charted i h =
       sym (getD-take (count + 1) places i 0 (omega arith))
-      ∙ ap (λ (xs : List ℕ). getD xs i 0) (c .placed)
-      ∙ elim (decLt i (length (c .all))) [
-        | yes l ↦ List·getD-append (c .all) (n ∷ []) 0 i l ∙ any-default (c .all) i 0 n l
+      ∙ ap (λ (xs : List ℕ). getD xs i 0) (c .found .placed)
+      ∙ elim (decLt i (length (c .found .all))) [
+        | yes l ↦ List·getD-append (c .found .all) (n ∷ []) 0 i l ∙ any-default (c .found .all) i 0 n l
         | no l ↦
-            getD-at (c .all) n [] 0 i (omega (arith, c .counted)) ∙ sym (List·getD-eq-default (c .all) n {n = i} (omega arith))
+            getD-at (c .found .all) n [] 0 i (omega (arith, c .found .counted)) ∙ sym (List·getD-eq-default (c .found .all) n {n = i} (omega arith))
       ]
 
   -- a strip begins below the size; it has ended above 0 and not past the size
   pub strip-begins : (i : ℕ) → i < count → getD places i 0 < n
   strip-begins i h =
       omega
-      (arith, place-charted i (omega arith), fieldCut c .rising i (omega (arith, c .counted)), place-size (fieldCut c) (suc i) (omega (arith, c .counted)))
+      (arith, place-charted i (omega arith), fieldCut c .rising i (omega (arith, c .found .counted)), place-size (fieldCut c) (suc i) (omega (arith, c .found .counted)))
 
   pub strip-ends : (i : ℕ) → i < count → (0 < getD places (i + 1) 0) × (getD places (i + 1) 0 ≤ n)
   strip-ends i h =
       let next = ap (λ (j : ℕ). place (fieldCut c) j) (add-one i) in
       let at = place-charted (i + 1) (omega arith) in
-      (omega (arith, at, next, fieldCut c .rising i (omega (arith, c .counted))), omega (arith, at, next, place-size (fieldCut c) (suc i) (omega (arith, c .counted))))
+      (omega (arith, at, next, fieldCut c .rising i (omega (arith, c .found .counted))), omega (arith, at, next, place-size (fieldCut c) (suc i) (omega (arith, c .found .counted))))
 
 module _ (places : List ℕ) where
   -- the place of a strip in each field from a field on
   abbrev pub cornerIn : ℕ → List ℕ → Packet
   cornerIn field [] = []
-  cornerIn field (i ∷ cell) = getD places (322 * field + i) 0 ∷ cornerIn (field + 1) cell
+  cornerIn field (i ∷ cell) = getD places (fieldPlaces * field + i) 0 ∷ cornerIn (field + 1) cell
 
   module _ {numbers : List ℕ} {rules directives exceptions : ℕ} where
     pub corner-charted : {field : ℕ} {ns masks part counts : List ℕ} (f : FieldsCharted numbers rules directives exceptions field ns masks part counts)
-        → PartsFrom 322 places field part
+        → PartsFrom fieldPlaces places field part
         → {cell : List ℕ}
         → InRange counts cell
         → corner (cutsOf f) cell ≡ cornerIn field cell
     unfolding corner
     corner-charted charted-none there range-none = refl
     corner-charted {field} (charted-more {places = xs} {more-places = more} c long wide later) there (range-more {x = i} h r) =
-        let here = parts-here 322 places field xs more there i (omega (arith, c .few)) ∙ place-charted c i (omega arith) in
-        λ t. sym here t ∷ corner-charted later (parts-later 322 places field xs more there wide) r t
+        let here = parts-here fieldPlaces places field xs more there i (omega (arith, c .found .few)) ∙ place-charted c i (omega arith) in
+        λ t. sym here t ∷ corner-charted later (parts-later fieldPlaces places field xs more there wide) r t

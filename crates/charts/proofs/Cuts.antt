@@ -10,14 +10,16 @@ use Rattle.meaning.specs.Blocks.{Span, Block, within}
 use Rattle.meaning.specs.Records.{Every}
 use Rattle.meaning.specs.Strips as strips
 use Rattle.meaning.specs.Strips.{Cut, place, sizes}
-use Rattle.cells.specs.Masks.{mask}
-use Rattle.cells.proofs.MaskLaws.{mask-map}
+use Rattle.meaning.specs.Sizes.{fieldCount, maskKinds}
+use Rattle.layout.specs.Masks.{mask}
+use Rattle.layout.proofs.MaskLaws.{mask-map}
 use Rattle.strips.specs.Charts.{holding, masksAt, ChartedField}
-use Rattle.strips.specs.Spans.{InFront, spansIn}
-use Rattle.strips.proofs.BlockSpans.{spanOf, spans-between}
+use Rattle.bounds.specs.Spans.{InFront, spansIn}
+use Rattle.bounds.proofs.BlockSpans.{spanOf, spans-between}
 use Rattle.strips.proofs.MaskLists.{rules-at, directives-at, exceptions-at}
-use Rattle.strips.proofs.PlacesCut.{placesCut, holding-constant}
-use Rattle.strips.proofs.SpanLists.{spans-parts}
+use Rattle.places.proofs.PlacesCut.{placesCut}
+use Rattle.strips.proofs.StripMasks.{holding-constant}
+use Rattle.bounds.proofs.SpanLists.{spans-parts}
 use Rattle.charts.specs.Charted.{FieldsCharted, charted-none, charted-more}
 
 -- a field, cut at its places
@@ -25,7 +27,7 @@ abbrev pub fieldCut : {numbers : List ℕ} {field n rules directives exceptions 
     → ChartedField numbers field n rules directives exceptions masks places count
     → Cut
 fieldCut {numbers} {field} {n} {rules} {directives} {exceptions} c =
-    placesCut n (spansIn numbers field 0 (rules + directives + exceptions)) (c .all) (c .are-places)
+    placesCut n (spansIn numbers field 0 (rules + directives + exceptions)) (c .found .all) (c .found .are-places)
 
 module _ {numbers : List ℕ} {rules directives exceptions : ℕ} where
   -- the fields, cut at their places
@@ -40,7 +42,7 @@ module _ {numbers : List ℕ} {rules directives exceptions : ℕ} where
   pub counts-are : {field : ℕ} {ns masks places counts : List ℕ} (f : FieldsCharted numbers rules directives exceptions field ns masks places counts)
       → strips.counts (cutsOf f) ≡ counts
   counts-are charted-none = refl
-  counts-are (charted-more c long wide later) = λ i. sym (c .counted) i ∷ counts-are later i
+  counts-are (charted-more c long wide later) = λ i. sym (c .found .counted) i ∷ counts-are later i
 
 -- the block's span in a field holds x
 abbrev pub spanHolds : ℕ → ℕ → Block → Bool
@@ -50,23 +52,23 @@ spanHolds field x b = within (spanOf field b) x
 module _
     (numbers : List ℕ)
     (rs ds es : List Block)
-    (shaped : Every (λ b. length b ≡ 4) (rs ++ ds ++ es))
+    (shaped : Every (λ b. length b ≡ fieldCount) (rs ++ ds ++ es))
     (numbered : InFront (rs ++ ds ++ es) numbers)
   where
-    part : (field : ℕ) → field < 4 → (before bs after : List Block) → rs ++ ds ++ es ≡ before ++ bs ++ after
+    part : (field : ℕ) → field < fieldCount → (before bs after : List Block) → rs ++ ds ++ es ≡ before ++ bs ++ after
         → spansIn numbers field (length before) (length bs) ≡ map (spanOf field) bs
     part field h before bs after e =
-        spans-between numbers field before bs after h (subst (Every (λ b. length b ≡ 4)) e shaped)
+        spans-between numbers field before bs after h (subst (Every (λ b. length b ≡ fieldCount)) e shaped)
         (subst (λ (all : List Block). InFront all numbers) e numbered)
 
     -- the spans of each kind of block
-    rule-spans : (field : ℕ) → field < 4 → spansIn numbers field 0 (length rs) ≡ map (spanOf field) rs
+    rule-spans : (field : ℕ) → field < fieldCount → spansIn numbers field 0 (length rs) ≡ map (spanOf field) rs
     rule-spans field h = part field h [] rs (ds ++ es) (append-assoc rs ds es)
 
-    directive-spans : (field : ℕ) → field < 4 → spansIn numbers field (length rs) (length ds) ≡ map (spanOf field) ds
+    directive-spans : (field : ℕ) → field < fieldCount → spansIn numbers field (length rs) (length ds) ≡ map (spanOf field) ds
     directive-spans field h = part field h rs ds es refl
 
-    exception-spans : (field : ℕ) → field < 4 → spansIn numbers field (length rs + length ds) (length es) ≡ map (spanOf field) es
+    exception-spans : (field : ℕ) → field < fieldCount → spansIn numbers field (length rs + length ds) (length es) ≡ map (spanOf field) es
     exception-spans field h =
         ap (λ (j : ℕ). spansIn numbers field j (length es)) (sym (length-append rs ds)) ∙ part field h (rs ++ ds) es [] (sym (append-nil (rs ++ ds ++ es)))
 
@@ -75,9 +77,9 @@ module _
         {field n count : ℕ}
         {masks places : List ℕ}
         (c : ChartedField numbers field n (length rs) (length ds) (length es) masks places count)
-        (is-field : field < 4)
+        (is-field : field < fieldCount)
         (i x : ℕ)
-        (h : i < length (c .all))
+        (h : i < length (c .found .all))
         (from : place (fieldCut c) i ≤ x)
         (to : x < place (fieldCut c) (suc i))
       where
@@ -96,42 +98,42 @@ module _
 
         -- the mask of some of the spans, at the strip's place and at x
         at-x : (ts before after : List Span) (bs : List Block) → ss ≡ before ++ ts ++ after → ts ≡ map (spanOf field) bs
-            → holding ts (getD (c .all) i n) ≡ mask (spanHolds field x) bs
+            → holding ts (getD (c .found .all) i n) ≡ mask (spanHolds field x) bs
         at-x ts before after bs e spans =
-            holding-constant n ss (c .all) (c .are-places) i x h from to before ts after e
+            holding-constant n ss (c .found .all) (c .found .are-places) i x h from to before ts after e
             ∙ ap (λ (us : List Span). holding us x) spans
             ∙ mask-map (λ (s : Span). within s x) (spanOf field) bs
 
         -- the masks in front of the field's
         abbrev laid : List ℕ
-        laid = masksAt of-rules of-directives of-exceptions (c .all)
+        laid = masksAt of-rules of-directives of-exceptions (c .found .all)
 
-        in-front : (j : ℕ) → j < 3 * length (c .all) → getD masks j 0 ≡ getD laid j 0
+        in-front : (j : ℕ) → j < maskKinds * length (c .found .all) → getD masks j 0 ≡ getD laid j 0
         in-front j l =
-            sym (getD-take (3 * count) masks j 0 (omega (arith, c .counted))) ∙ ap (λ (ms : List ℕ). getD ms j 0) (c .masked)
+            sym (getD-take (maskKinds * count) masks j 0 (omega (arith, c .found .counted))) ∙ ap (λ (ms : List ℕ). getD ms j 0) (c .masked)
 
         parts : ss ≡ of-rules ++ of-directives ++ of-exceptions
         parts = spans-parts numbers field (length rs) (length ds) (length es)
 
-        pub rule-mask : getD masks (3 * i) 0 ≡ mask (spanHolds field x) rs
+        pub rule-mask : getD masks (maskKinds * i) 0 ≡ mask (spanHolds field x) rs
         rule-mask =
-            in-front (3 * i) (omega arith)
-            ∙ rules-at of-rules of-directives of-exceptions (c .all) i n h
+            in-front (maskKinds * i) (omega arith)
+            ∙ rules-at of-rules of-directives of-exceptions (c .found .all) i n h
             ∙ at-x of-rules [] (of-directives ++ of-exceptions) rs
             (parts ∙ append-assoc of-rules of-directives of-exceptions)
             (rule-spans field is-field)
 
-        pub directive-mask : getD masks (3 * i + 1) 0 ≡ mask (spanHolds field x) ds
+        pub directive-mask : getD masks (maskKinds * i + 1) 0 ≡ mask (spanHolds field x) ds
         directive-mask =
-            in-front (3 * i + 1) (omega arith)
-            ∙ directives-at of-rules of-directives of-exceptions (c .all) i n h
+            in-front (maskKinds * i + 1) (omega arith)
+            ∙ directives-at of-rules of-directives of-exceptions (c .found .all) i n h
             ∙ at-x of-directives of-rules of-exceptions ds parts
             (directive-spans field is-field)
 
-        pub exception-mask : getD masks (3 * i + 2) 0 ≡ mask (spanHolds field x) es
+        pub exception-mask : getD masks (maskKinds * i + 2) 0 ≡ mask (spanHolds field x) es
         exception-mask =
-            in-front (3 * i + 2) (omega arith)
-            ∙ exceptions-at of-rules of-directives of-exceptions (c .all) i n h
+            in-front (maskKinds * i + 2) (omega arith)
+            ∙ exceptions-at of-rules of-directives of-exceptions (c .found .all) i n h
             ∙ at-x of-exceptions (of-rules ++ of-directives) [] es
             (parts ∙ sym (append-nil (of-rules ++ of-directives ++ of-exceptions)))
             (exception-spans field is-field)

@@ -14,21 +14,22 @@ use Rattle.meaning.specs.Blocks.{Block, within, holds}
 use Rattle.meaning.specs.Fields.{Packet}
 use Rattle.meaning.specs.Records.{Every}
 use Rattle.meaning.specs.Strips.{place, InCell, cell-none, cell-more}
+use Rattle.meaning.specs.Sizes.{fieldCount, mostStrips, maskKinds, maskDigits, fieldMasks, frontWords}
+use Rattle.meaning.proofs.RecordsEvery.{every-weaker, every-between}
 use Rattle.cells.specs.declared.Left.{Left}
 use Rattle.cells.specs.Cells.{chart, spot, leftAt, leftIn}
-use Rattle.cells.specs.Masks.{mask}
-use Rattle.cells.proofs.MaskLaws.{mask-same, mask-and, mask-small}
+use Rattle.layout.specs.Masks.{mask}
+use Rattle.layout.proofs.MaskLaws.{mask-same, mask-and, mask-small}
 use Rattle.strips.specs.Charts.{ChartedField}
-use Rattle.strips.specs.Spans.{InFront}
-use Rattle.strips.proofs.BlockSpans.{noSpan, spanOf}
-use Rattle.strips.proofs.Membership.{every-weaker, every-between}
+use Rattle.bounds.specs.Spans.{InFront}
+use Rattle.bounds.proofs.BlockSpans.{noSpan, spanOf}
 use Rattle.charts.specs.Charted.{FieldsCharted, charted-none, charted-more}
 use Rattle.charts.proofs.Parts.{PartsFrom, parts-here, parts-later}
 use Rattle.charts.proofs.Cuts.{fieldCut, cutsOf, spanHolds, rule-mask, directive-mask, exception-mask}
 
 -- everything is left: all digits are set
 abbrev pub everything : Left
-everything = record { rules = 2 ^ 64 - 1; directives = 2 ^ 64 - 1; exceptions = 2 ^ 64 - 1 }
+everything = record { rules = 2 ^ maskDigits - 1; directives = 2 ^ maskDigits - 1; exceptions = 2 ^ maskDigits - 1 }
 
 module _ (rs ds es : List Block) where
   -- the blocks that pass a test are left
@@ -44,17 +45,17 @@ module _ (rs ds es : List Block) where
   left-covers : (test : Block → Bool) → Covers (leftBy test) test
   left-covers test = record { rules = λ f. mask-and test f rs; directives = λ f. mask-and test f ds; exceptions = λ f. mask-and test f es }
 
-  all-covers : length rs ≤ 64 → length ds ≤ 64 → length es ≤ 64 → Covers everything (λ (b : Block). true)
+  all-covers : length rs ≤ maskDigits → length ds ≤ maskDigits → length es ≤ maskDigits → Covers everything (λ (b : Block). true)
   all-covers r d e = record { rules = λ f. full f rs r; directives = λ f. full f ds d; exceptions = λ f. full f es e }
     where
-      full : (f : Block → Bool) (bs : List Block) → length bs ≤ 64 → bitAnd (2 ^ 64 - 1) (mask f bs) ≡ mask f bs
+      full : (f : Block → Bool) (bs : List Block) → length bs ≤ maskDigits → bitAnd (2 ^ maskDigits - 1) (mask f bs) ≡ mask f bs
       full f bs h =
-          and-comm (2 ^ 64 - 1) (mask f bs) ∙ and-mask (mask f bs) 64
-          ∙ mod-eq-of-lt (omega (arith, mask-small f bs, pow-mono {i = length bs} {j = 64} h))
+          and-comm (2 ^ maskDigits - 1) (mask f bs) ∙ and-mask (mask f bs) maskDigits
+          ∙ mod-eq-of-lt (omega (arith, mask-small f bs, pow-mono {i = length bs} {j = maskDigits} h))
 
--- tests that agree on blocks of four fields leave the same
-module _ (rs ds es : List Block) (shaped : Every (λ b. length b ≡ 4) (rs ++ ds ++ es)) where
-  same-left : (test other : Block → Bool) → ((b : Block) → length b ≡ 4 → test b ≡ other b) → leftBy rs ds es test ≡ leftBy rs ds es other
+-- tests that agree on blocks with a span for each field leave the same
+module _ (rs ds es : List Block) (shaped : Every (λ b. length b ≡ fieldCount) (rs ++ ds ++ es)) where
+  same-left : (test other : Block → Bool) → ((b : Block) → length b ≡ fieldCount → test b ≡ other b) → leftBy rs ds es test ≡ leftBy rs ds es other
   same-left test other each =
       λ i.
       record {
@@ -64,7 +65,7 @@ module _ (rs ds es : List Block) (shaped : Every (λ b. length b ≡ 4) (rs ++ d
       }
     where
       on : (before bs after : List Block) → rs ++ ds ++ es ≡ before ++ bs ++ after → mask test bs ≡ mask other bs
-      on before bs after e = mask-same (every-weaker each (every-between before bs after (subst (Every (λ b. length b ≡ 4)) e shaped)))
+      on before bs after e = mask-same (every-weaker each (every-between before bs after (subst (Every (λ b. length b ≡ fieldCount)) e shaped)))
 
 and-true : (a : Bool) → a ≡ (a && true)
 and-true true = refl
@@ -74,15 +75,15 @@ and-assoc : (a b c : Bool) → (a && b && c) ≡ (a && (b && c))
 and-assoc true b c = refl
 and-assoc false b c = refl
 
--- The words have the masks of all fields behind the first 68.
+-- The words have the masks of all fields behind the front words.
 abbrev pub MasksBehind : List ℕ → List ℕ → Type 0
-MasksBehind words masks = (j : ℕ) → getD words (68 + j) 0 ≡ getD masks j 0
+MasksBehind words masks = (j : ℕ) → getD words (frontWords + j) 0 ≡ getD masks j 0
 
 module _
     (numbers words counts all-masks : List ℕ)
     (behind : MasksBehind words all-masks)
     (rs ds es : List Block)
-    (shaped : Every (λ b. length b ≡ 4) (rs ++ ds ++ es))
+    (shaped : Every (λ b. length b ≡ fieldCount) (rs ++ ds ++ es))
     (numbered : InFront (rs ++ ds ++ es) numbers)
   where
     -- a block that holds the numbers from a field on, opened
@@ -95,11 +96,11 @@ module _
         {field n count : ℕ}
         {masks places : List ℕ}
         (c : ChartedField numbers field n (length rs) (length ds) (length es) masks places count)
-        (is-field : field < 4)
-        (long : length masks ≡ 963)
-        (there : PartsFrom 963 all-masks field masks)
+        (is-field : field < fieldCount)
+        (long : length masks ≡ fieldMasks)
+        (there : PartsFrom fieldMasks all-masks field masks)
         (i x : ℕ)
-        (h : i < length (c .all))
+        (h : i < length (c .found .all))
         (from : place (fieldCut c) i ≤ x)
         (to : x < place (fieldCut c) (suc i))
         (s : Left)
@@ -110,13 +111,13 @@ module _
         left-at-strip : leftAt words field i s ≡ leftBy rs ds es (λ (b : Block). test b && spanHolds field x b)
         unfolding leftAt
         left-at-strip =
-            let few : i < 321 = omega (arith, c .counted, c .few) in
-            let word : (j : ℕ) → j < 3 → getD words (spot field i + j) 0 ≡ getD masks (3 * i + j) 0 =
-            λ j l. let at : spot field i + j ≡ 68 + (963 * field + (3 * i + j)) = omega arith in
-            ap (λ (k : ℕ). getD words k 0) at ∙ behind (963 * field + (3 * i + j)) ∙ there (3 * i + j) (omega arith) in
+            let few : i < mostStrips = omega (arith, c .found .counted, c .found .few) in
+            let word : (j : ℕ) → j < maskKinds → getD words (spot field i + j) 0 ≡ getD masks (maskKinds * i + j) 0 =
+            λ j l. let at : spot field i + j ≡ frontWords + (fieldMasks * field + (maskKinds * i + j)) = omega arith in
+            ap (λ (k : ℕ). getD words k 0) at ∙ behind (fieldMasks * field + (maskKinds * i + j)) ∙ there (maskKinds * i + j) (omega arith) in
             let none : spot field i ≡ spot field i + 0 = omega arith in
-            let first : 3 * i + 0 ≡ 3 * i = omega arith in
-            let w0 : getD words (spot field i) 0 ≡ getD masks (3 * i) 0 = ap (λ (k : ℕ). getD words k 0) none ∙ word 0 (omega arith) ∙ ap (λ (k : ℕ). getD masks k 0) first in
+            let first : maskKinds * i + 0 ≡ maskKinds * i = omega arith in
+            let w0 : getD words (spot field i) 0 ≡ getD masks (maskKinds * i) 0 = ap (λ (k : ℕ). getD words k 0) none ∙ word 0 (omega arith) ∙ ap (λ (k : ℕ). getD masks k 0) first in
             λ t.
             record {
               rules = (ap (bitAnd (s .rules)) (w0 ∙ rule-mask numbers rs ds es shaped numbered c is-field i x h from to) ∙ covers .rules (spanHolds field x)) t;
@@ -143,8 +144,8 @@ module _
 
     -- all strips from a field on
     left-in-cell : {field : ℕ} {ns masks places some : List ℕ} (f : FieldsCharted numbers (length rs) (length ds) (length es) field ns masks places some)
-        → field + length ns ≡ 4
-        → PartsFrom 963 all-masks field masks
+        → field + length ns ≡ fieldCount
+        → PartsFrom fieldMasks all-masks field masks
         → {cell : List ℕ} {q : Packet}
         → InCell (cutsOf f) cell q
         → (test : Block → Bool)
@@ -154,19 +155,19 @@ module _
         same-left rs ds es shaped test (λ (b : Block). test b && holds (drop field b) [])
         (λ b l. and-true (test b) ∙ ap (λ (c : Block). test b && holds c []) (sym (drop-of-length-le b {i = field} (omega arith))))
     left-in-cell {field} (charted-more {masks} {more-masks} c long wide later) e there (cell-more {i} {x} {cell} {p = q} h from to s) test =
-        left-on c (omega arith) long (parts-here 963 all-masks field masks more-masks there) i x h from to (leftBy rs ds es test) test (left-covers rs ds es test) cell q
-        (left-in-cell later (omega arith) (parts-later 963 all-masks field masks more-masks there long) s (λ (b : Block). test b && spanHolds field x b))
+        left-on c (omega arith) long (parts-here fieldMasks all-masks field masks more-masks there) i x h from to (leftBy rs ds es test) test (left-covers rs ds es test) cell q
+        (left-in-cell later (omega arith) (parts-later fieldMasks all-masks field masks more-masks there long) s (λ (b : Block). test b && spanHolds field x b))
 
     -- from the first field on, where everything is left
     pub left-in-all : {n : ℕ} {ns masks places some : List ℕ} (f : FieldsCharted numbers (length rs) (length ds) (length es) 0 (n ∷ ns) masks places some)
-        → length (n ∷ ns) ≡ 4
-        → length rs ≤ 64
-        → length ds ≤ 64
-        → length es ≤ 64
-        → PartsFrom 963 all-masks 0 masks
+        → length (n ∷ ns) ≡ fieldCount
+        → length rs ≤ maskDigits
+        → length ds ≤ maskDigits
+        → length es ≤ maskDigits
+        → PartsFrom fieldMasks all-masks 0 masks
         → {cell : List ℕ} {q : Packet}
         → InCell (cutsOf f) cell q
         → leftIn (chart words counts) 0 everything cell ≡ leftBy rs ds es (λ (b : Block). holds b q)
     left-in-all (charted-more {masks} {more-masks} c long wide later) e few-rules few-directives few-exceptions there (cell-more {i} {x} {cell} {p = q} h from to s) =
-        left-on c (omega arith) long (parts-here 963 all-masks 0 masks more-masks there) i x h from to everything (λ (b : Block). true) (all-covers rs ds es few-rules few-directives few-exceptions) cell q
-        (left-in-cell later (omega arith) (parts-later 963 all-masks 0 masks more-masks there long) s (λ (b : Block). true && spanHolds 0 x b))
+        left-on c (omega arith) long (parts-here fieldMasks all-masks 0 masks more-masks there) i x h from to everything (λ (b : Block). true) (all-covers rs ds es few-rules few-directives few-exceptions) cell q
+        (left-in-cell later (omega arith) (parts-later fieldMasks all-masks 0 masks more-masks there long) s (λ (b : Block). true && spanHolds 0 x b))

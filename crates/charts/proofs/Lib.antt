@@ -5,10 +5,5 @@ pub mod Cuts
 pub mod Lefts
 pub mod CellLabels
 pub mod Corners
-mod Counted
-mod Storing
-mod Within
-mod MaskWalk
-mod BlockWalk
-mod FrontWords
 mod FieldWalk
+mod FieldSizes

@@ -1,6 +1,3 @@
 -- The laws of the verdict and the listing.
-mod Forming
-mod Corners
-mod Answering
 pub mod Promises
 pub mod OneAnswer

@@ -20,7 +20,8 @@ use Rattle.sets.specs.declared.Rules.{Rules}
 use Rattle.sets.specs.Vocabulary.{ruleSetOf, policySetOf}
 use Rattle.sets.proofs.OneAnswer.{one-refusal}
 use Rattle.labels.proofs.OneAnswer.{one-label}
-use Rattle.faults.specs.Answers.{refused, labelAt, verdictOf, JudgedAs, ListedAs}
+use Rattle.findings.specs.Found.{labelAt}
+use Rattle.faults.specs.Answers.{refused, verdictOf, JudgedAs, ListedAs}
 use Rattle.faults.specs.declared.Judged.{Judged}
 use Rattle.faults.specs.declared.Listed.{Listed}
 use Rattle.faults.proofs.listing.Reads as listing

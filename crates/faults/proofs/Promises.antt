@@ -10,12 +10,14 @@ use Rattle.meaning.specs.Fields.{Packet, InRange, fields}
 use Rattle.meaning.specs.Form.{tableOf, policyOf}
 use Rattle.meaning.specs.Labels.{good, kind}
 use Rattle.meaning.specs.Listings.{told, Tells}
+use Rattle.meaning.specs.Sizes.{mostListed}
 use Rattle.meaning.proofs.Demands.{each-fault-told-once, same-listing-iff-same-labels}
 use Rattle.meaning.proofs.VerdictConforms.{conforms-said-iff}
 use Rattle.sets.specs.declared.Policy.{Policy}
 use Rattle.sets.specs.declared.Rules.{Rules}
 use Rattle.sets.specs.Vocabulary.{ruleSetOf, policySetOf, labelOf}
-use Rattle.faults.specs.Answers.{refused, labelAt, verdictOf, JudgedAs, ListingTold, ListedAs}
+use Rattle.findings.specs.Found.{labelAt, ListingTold}
+use Rattle.faults.specs.Answers.{refused, verdictOf, JudgedAs, ListedAs}
 use Rattle.faults.specs.declared.Judged.{Judged}
 use Rattle.faults.specs.declared.Listed.{Listed}
 
@@ -42,6 +44,6 @@ listings-same-iff rules others policy other before after before′ after′ tota
     same-listing-iff-same-labels fields (tableOf (ruleSetOf rules)) (tableOf (ruleSetOf others)) (policyOf (policySetOf policy)) (policyOf (policySetOf other)) (t .blocks) (u .blocks) (t .listed) (u .listed)
 
 -- The total is at most 10,617,447,681, whatever the sets.
-pub listing-few : (rules : Rules) (policy : Policy) (before after : List ℕ) (r : Listed) → ListedAs rules policy before after r → r .total ≤ 10_617_447_681
+pub listing-few : (rules : Rules) (policy : Policy) (before after : List ℕ) (r : Listed) → ListedAs rules policy before after r → r .total ≤ mostListed
 listing-few rules policy before after r a =
     elim (ℕ-discrete (refused rules policy .number) 0) [ yes e ↦ a .told e .few | no e ↦ omega (arith, a .zeros e .0) ]

@@ -1,3 +1,2 @@
 -- How to read the notation stands at the top of crates/meaning/specs/Lib.antt.
 pub mod Answers
-pub mod Inner

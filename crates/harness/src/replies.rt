@@ -36,7 +36,7 @@ fn tell_form(rules: Rules, policy: Policy, request: Request, output: &mut [u8]) 
     let packet = request.packet(0);
     let alone = tell_forms(rules, policy, packet, output);
     alone
-        .refusal(output, sets::refuse_label(rules, policy, packet))
+        .refusal(output, form::refuse_label(rules, policy, packet))
         .flag(output, packet.in_form())
         .send(output);
 }
@@ -44,15 +44,15 @@ fn tell_form(rules: Rules, policy: Policy, request: Request, output: &mut [u8]) 
 // The answer as far as it says what is refused of the rules, the policy and the packet, each alone.
 fn tell_forms(rules: Rules, policy: Policy, packet: Packet, output: &mut [u8]) -> Answer {
     Answer::new(output, b"form")
-        .refusal(output, sets::refuse_rules(rules))
-        .refusal(output, sets::refuse_policy(policy))
-        .refusal(output, sets::refuse_packet(packet))
+        .refusal(output, form::refuse_rules(rules))
+        .refusal(output, form::refuse_policy(policy))
+        .refusal(output, form::refuse_packet(packet))
 }
 
 // `s`: what is refused of the rules and the policy together.
 fn tell_sets(rules: Rules, policy: Policy, output: &mut [u8]) {
     Answer::new(output, b"sets")
-        .refusal(output, sets::refuse_sets(rules, policy))
+        .refusal(output, form::refuse_sets(rules, policy))
         .send(output);
 }
 

@@ -8,6 +8,7 @@ use lib.ListN.{length, drop, set}
 use lib.Seq.{drop-cons, drop-set-lt, getD-set-same, lt-length-set}
 use Rattle.meaning.specs.Fields.{InRange, range-none, range-more}
 use Rattle.meaning.specs.Listings.{at}
+use Rattle.meaning.specs.Sizes.{goodRank}
 use Rattle.meaning.proofs.VerdictFirst as first
 use Rattle.meaning.proofs.VerdictRanks.{FirstOf}
 use Rattle.judge.specs.declared.Best.{Best}
@@ -68,7 +69,7 @@ module _ (r : List ℕ → ℕ) (field limit : ℕ) (b : Best) where
       none q range-none = h
 
 -- the best of all cells
-pub better-is-best : (ns : List ℕ) (r : List ℕ → ℕ) (b : Best) → BetterThan ns r 0 66 b → BestOf ns r b
+pub better-is-best : (ns : List ℕ) (r : List ℕ → ℕ) (b : Best) → BetterThan ns r 0 goodRank b → BestOf ns r b
 better-is-best ns r b (no-better e none) = none-below e none
 better-is-best ns r b (better p o less k s) =
-    subst (λ (z : List ℕ). FirstOf ns r z → b .rank ≡ r z → b .rank < 66 → BestOf ns r b) s first-of o k (omega arith)
+    subst (λ (z : List ℕ). FirstOf ns r z → b .rank ≡ r z → b .rank < goodRank → BestOf ns r b) s first-of o k (omega arith)

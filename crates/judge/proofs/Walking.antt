@@ -6,6 +6,8 @@ use native.Mathlib.Omega.{arith}
 use native.Mathlib.Numerals.{add-one}
 use lib.ListN.{length, getD, drop}
 use Rattle.meaning.specs.Labels.{Label, good}
+use Rattle.meaning.specs.Sizes.{goodRank, mostStrips}
+use Rattle.meaning.specs.Form.{mostRules}
 use Rattle.meaning.proofs.VerdictRanks.{rank, good-ranks}
 use Rattle.cells.specs.declared.Left.{Left}
 use Rattle.cells.specs.Cells.{Chart, Formed, leftLabel, step, below, Nothing}
@@ -27,21 +29,21 @@ NoneBetterBelow w field s n = NoneBetter (below w field) (cellRank w field s) n
 pub record Walked (w : Chart) (field : ℕ) (s : Left) (limit count strip : ℕ) (b : Best) (before : Left) : Type 0 where
   pub is-field : field < length (w .counts)
   pub is-count : count ≡ getD (w .counts) field 0
-  pub few : count ≤ 321
+  pub few : count ≤ mostStrips
   pub within : strip ≤ count
-  pub low-rank : b .rank ≤ 66
+  pub low-rank : b .rank ≤ goodRank
   pub so-far : BetterThan (strip ∷ below w (field + 1)) (cellRank w field s) field limit b
   pub none-before : NoneBetterBelow w (field + 1) before (b .rank)
 
--- where nothing is left, every rank is 66
-none-at-nothing : (w : Chart) (field : ℕ) (s : Left) (n : ℕ) → Nothing s → n ≤ 66 → NoneBetterBelow w field s n
-none-at-nothing w field s n e low q i = omega (arith, ap (rank 64) (nothing-below w field s q e), good-ranks 64 good refl)
+-- where nothing is left, every rank is that of good
+none-at-nothing : (w : Chart) (field : ℕ) (s : Left) (n : ℕ) → Nothing s → n ≤ goodRank → NoneBetterBelow w field s n
+none-at-nothing w field s n e low q i = omega (arith, ap (rank mostRules) (nothing-below w field s q e), good-ranks mostRules good refl)
 
 module _ (w : Chart) (field : ℕ) (s : Left) (limit : ℕ) where
   pub kept-at-zero : (b : Best) → b .rank ≡ limit → limit ≡ 0 → BetterBelow w field s limit b
   kept-at-zero b e z = no-better e (λ q i. omega arith)
 
-  pub kept-at-nothing : (b : Best) → b .rank ≡ limit → Nothing s → limit ≤ 66 → BetterBelow w field s limit b
+  pub kept-at-nothing : (b : Best) → b .rank ≡ limit → Nothing s → limit ≤ goodRank → BetterBelow w field s limit b
   kept-at-nothing b e n low = no-better e (none-at-nothing w field s limit n low)
 
   -- the counts below the field, opened
@@ -49,9 +51,9 @@ module _ (w : Chart) (field : ℕ) (s : Left) (limit : ℕ) where
   opened {b = b} e x = subst (λ (ns : List ℕ). BetterThan ns (cellRank w field s) field limit b) (sym e) x
 
   -- where no field is left, the rank n of the label l decides
-  module _ (b : Best) (l : Label) (n : ℕ) (last : field ≡ length (w .counts)) (is-label : l ≡ leftLabel (w .words) s) (is-rank : n ≡ rank 64 l) where
+  module _ (b : Best) (l : Label) (n : ℕ) (last : field ≡ length (w .counts)) (is-label : l ≡ leftLabel (w .words) s) (is-rank : n ≡ rank mostRules l) where
     is-cell-rank : n ≡ cellRank w field s []
-    is-cell-rank = is-rank ∙ ap (rank 64) is-label
+    is-cell-rank = is-rank ∙ ap (rank mostRules) is-label
 
     pub found-last : drop field (b .strips) ≡ [] → b .rank ≡ n → n < limit → BetterBelow w field s limit b
     found-last none e less = opened (below-none w field last) (better-last (cellRank w field s) field limit b (omega (arith, is-cell-rank)) (e ∙ is-cell-rank) none)
@@ -61,7 +63,7 @@ module _ (w : Chart) (field : ℕ) (s : Left) (limit : ℕ) where
 
   module _ (count : ℕ) where
     pub walked-start : (b : Best) (before : Left) → Formed w → field < length (w .counts) → count ≡ getD (w .counts) field 0 → Nothing before → b .rank ≡ limit
-        → limit ≤ 66
+        → limit ≤ goodRank
         → Walked w field s limit count 0 b before
     walked-start b before f h is-count n e low =
         record {

@@ -2,12 +2,13 @@
 // fields, and looks for what is better than the best so far; it passes over a strip where nothing is left or the same as at the
 // strip before, and stops at rank 0. It works on masks and strips by number and knows no address.
 
-use cells::FIELDS;
+use blocks::FIELDS;
 use cells::Left;
 ghost use mathlib.Core.List.{[], _∷_};
 ghost use mathlib.Core.Path.{_≡_};
 ghost use Prim.Native.Nat.{ℕ, _+_, _≤_, _<_};
 ghost use lib.ListN.{length, drop};
+ghost use Rattle.meaning.specs.Sizes.{fieldCount, goodRank};
 ghost use Rattle.cells.specs.Cells.{chart, Formed, below};
 ghost use Rattle.judge.specs.Ranks.{RankOf, cellRank, BetterThan, BestOf};
 
@@ -17,7 +18,7 @@ const UNMET: usize = sets::MOST_RULES + 1;
 // The rank of a good label, which comes last.
 pub const GOOD: usize = UNMET + 1;
 
-// A cell: the rank of its label, and its strip in each field. There is none if the rank is 66.
+// A cell: the rank of its label, and its strip in each field. There is none if the rank is that of good.
 pub struct Best {
     pub rank: usize,
     pub strips: [usize; FIELDS],
@@ -25,7 +26,7 @@ pub struct Best {
 
 // The best of all cells, where all of the sets are left.
 pub fn best_cell(left: Left, words: &[u64], counts: &[usize]) -> Best
-    requires { ⌜ length (now counts) ≡ 4 ⌝ }
+    requires { ⌜ length (now counts) ≡ fieldCount ⌝ }
     requires { ⌜ Formed (chart (now words) (now counts)) ⌝ }
     ensures { λ r. ⌜ BestOf (now (counts .entry)) (cellRank (chart (now (words .entry)) (now (counts .entry))) 0 left) r ⌝ }
 {
@@ -35,7 +36,7 @@ pub fn best_cell(left: Left, words: &[u64], counts: &[usize]) -> Best
 // The best of the cells below a field, if it is better than the limit: its rank, and its strips from that field on. If there is
 // none, the rank is the limit.
 fn best_below(field: usize, left: Left, limit: usize, words: &[u64], counts: &[usize]) -> Best
-    requires { ⌜ (field ≤ 4) × (length (now counts) ≡ 4) × (limit ≤ 66) ⌝ }
+    requires { ⌜ (field ≤ fieldCount) × (length (now counts) ≡ fieldCount) × (limit ≤ goodRank) ⌝ }
     requires { ⌜ Formed (chart (now words) (now counts)) ⌝ }
     ensures { λ r. ⌜ BetterThan (below (chart (now (words .entry)) (now (counts .entry))) field) (cellRank (chart (now (words .entry)) (now (counts .entry))) field left) field limit r ⌝ }
 {
@@ -78,7 +79,7 @@ fn best_below(field: usize, left: Left, limit: usize, words: &[u64], counts: &[u
 
 // A cell of this rank, of which no strip is known yet.
 fn ranked(rank: usize) -> Best
-    ensures { λ r. ⌜ (r .rank ≡ rank) × (drop 4 (r .strips) ≡ []) ⌝ }
+    ensures { λ r. ⌜ (r .rank ≡ rank) × (drop fieldCount (r .strips) ≡ []) ⌝ }
 {
     Best {
         rank,
@@ -88,7 +89,7 @@ fn ranked(rank: usize) -> Best
 
 // The cell with this strip at a field.
 fn with_strip(best: Best, field: usize, strip: usize) -> Best
-    requires { ⌜ field < 4 ⌝ }
+    requires { ⌜ field < fieldCount ⌝ }
     ensures { λ r. ⌜ (r .rank ≡ best .rank) × (drop field (r .strips) ≡ strip ∷ drop (field + 1) (best .strips)) ⌝ }
 {
     let mut strips = best.strips;

@@ -47,7 +47,7 @@ module _ (p : Packet) where
   excepted-within e = by-tests (holds (e .block) p) (leb (e .directive) mostDirectives) refl
     where
       by-tests : (h t : Bool) → leb (e .directive) mostDirectives ≡ t → cond (h && t) (e .directive) 0 < 33
-      by-tests true true few = let most : e .directive ≤ 32 = leb-true (e .directive) mostDirectives few in omega arith
+      by-tests true true few = let most : e .directive ≤ mostDirectives = leb-true (e .directive) mostDirectives few in omega arith
       by-tests true false many = omega arith
       by-tests false t few = omega arith
 

@@ -6,7 +6,7 @@ use Rattle.meaning.specs.Rules as rules
 use Rattle.blocks.specs.declared.Packet.{Packet}
 use Rattle.contracts.specs.Answers.{OneAnswer}
 use Rattle.contracts.proofs.Answering.{one-answer, one-standing}
-use Rattle.blocks.proofs.OneAnswer.{blockFrom}
+use Rattle.blocks.specs.Vocabulary.{blockFrom}
 use Rattle.sets.specs.declared.Action.the-variants.{Deny, Accept}
 use Rattle.sets.specs.declared.Action.{Action}
 use Rattle.sets.specs.declared.Label.the-variants.{Good, Conflict, Wrong, Unasked, UnmetAccept, UnmetDeny}
@@ -22,6 +22,7 @@ use Rattle.labels.specs.declared.Decided.{Decided}
 use Rattle.labels.specs.declared.Labelled.{Labelled}
 use Rattle.labels.proofs.deciding.Reads as deciding
 use Rattle.labels.proofs.label.Reads as label
+use Rattle.labels.proofs.label_of.Reads as label-of
 use Rattle.labels.proofs.lowest_asking.Reads as lowest-asking
 
 abbrev actionFrom : rules.Action → Action
@@ -72,6 +73,9 @@ one-labelled rules policy packet r s a b =
 
 pub label-once : OneAnswer (label.Post)
 label-once κs a r s after after' e f = one-labelled _ _ _ r s e f
+
+pub label-of-once : OneAnswer (label-of.Post)
+label-of-once κs a r s after after' e f = one-label _ r s e f
 
 pub deciding-once : OneAnswer (deciding.Post)
 deciding-once κs a r s after after' e f = one-decided _ r s e f

@@ -1,8 +1,8 @@
 // The label of a packet, for any rules, policy and packet: its kind and rule, or refusal 14. Beside it the lowest directive
-// that asks for an action at a packet, and the rule that decides it. `label` looks at the form of all records within the
-// counts; then it goes over the rules up to the one that decides, over the exceptions, and over the directives for each
-// action. No set is copied in a loop. Each contract says that the answer is what `meaning` defines for what the values
-// stand for, and so leaves one answer only.
+// that asks for an action at a packet, the rule that decides it, and the label without a look at form. `label` looks at
+// the form of all records within the counts; then it goes over the rules up to the one that decides, over the exceptions,
+// and over the directives for each action. No set is copied in a loop. Each contract says that the answer is what
+// `meaning` defines for what the values stand for, and so leaves one answer only.
 
 use blocks::Packet;
 use sets::Action;
@@ -44,7 +44,7 @@ pub enum Decided {
 pub fn label(rules: Rules, policy: Policy, packet: Packet) -> Labelled
     ensures { λ r. ⌜ LabelledAs rules policy packet r ⌝ }
 {
-    let refusal = sets::refuse_label(rules, policy, packet);
+    let refusal = form::refuse_label(rules, policy, packet);
     if refusal.number == 0 {
         let label = label_of(rules, policy, packet);
         Labelled { refusal, label }
@@ -81,7 +81,7 @@ pub fn lowest_asking(policy: Policy, action: Action, packet: Packet) -> u32
 }
 
 // The label by the records within the counts, whether these are in form or not.
-fn label_of(rules: Rules, policy: Policy, packet: Packet) -> Label
+pub fn label_of(rules: Rules, policy: Policy, packet: Packet) -> Label
     ensures { λ r. ⌜ labelOf r ≡ label (tableOf (ruleSetOf rules)) (policyOf (policySetOf policy)) (packetOf packet) ⌝ }
 {
     let marks = excepted(policy, packet);

@@ -10,6 +10,7 @@ use denote.Triple.Entry.{Args, Res}
 use Rattle.contracts.specs.Answers.{OneAnswer, OneSlice}
 use Rattle.contracts.proofs.Answering.{one-answer}
 use Rattle.lines.proofs.after.Reads as after
+use Rattle.lines.proofs.behind.Reads as behind
 use Rattle.lines.proofs.current as current
 use Rattle.lines.proofs.line_at.Reads as line-at
 use Rattle.lines.proofs.next as next
@@ -39,3 +40,6 @@ line-at-once κs a r s after after' e f = one-answer _ _ _ e f
 
 pub after-once : OneAnswer after.Post
 after-once κs a r s after after' e f = one-answer _ r s e f
+
+pub behind-once : OneAnswer behind.Post
+behind-once κs a r s after after' e f = one-answer _ r s e f

@@ -20,6 +20,14 @@ lineFrom text at = record { place = min at (length text); bytes = lineAt text at
 abbrev pub placeAfter : List ℕ → ℕ → ℕ
 placeAfter text at = (min at (length text) + length (lineAt text at)) + 1
 
+-- the largest place that a machine word holds
+abbrev pub lastPlace : ℕ
+lastPlace = 18446744073709551615
+
+-- the place behind a line of this length, as far as a machine word holds it
+abbrev pub placeBehind : ℕ → ℕ → ℕ
+placeBehind at size = min ((at + size) + 1) lastPlace
+
 -- the largest line number that 32 bits hold
 abbrev pub lastLine : ℕ
 lastLine = 4294967295
@@ -31,6 +39,10 @@ lineAfter line = min (line + 1) lastLine
 -- the cursor behind the line at a cursor
 abbrev pub cursorAfter : List ℕ → Cursor → Cursor
 cursorAfter text c = record { at = placeAfter text (c .at); line = lineAfter (c .line) }
+
+-- the cursor behind a line of this length at a cursor
+abbrev pub cursorBehind : Cursor → ℕ → Cursor
+cursorBehind c size = record { at = placeBehind (c .at) size; line = lineAfter (c .line) }
 
 -- the reader behind its line
 abbrev pub nextOf : Lines → Lines

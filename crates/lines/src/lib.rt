@@ -1,15 +1,19 @@
 // Reading a text line by line. What reading carries along is the text, the next place and the number of the line there: first as
 // a cursor beside the text, by value, then as a reader that holds the lent text itself. The functions on a reader take it apart
-// and call plain ones; `line_at` and `after` make one of plain parameters, and are what everybody else calls. A line is
-// handed back as a part of the caller's text, its address promised too. Every call answers for every place and number.
+// and call plain ones; `line_at` and `after` make one of plain parameters. A loop over lines finds a line by `line_at`, and by its
+// length the place behind it, `behind`, so that no line is gone through twice to find its end. A line is handed back as a part of the
+// caller's text, its address promised too. Every call answers for every place, number and length.
 
 ghost use mathlib.Core.Path.{_≡_};
 ghost use Rattle.contracts.specs.Answers.{seen};
 ghost use Rattle.parts.specs.Parts.{shown};
-ghost use Rattle.lines.specs.Reader.{lineFrom, placeAfter, lineAfter, cursorAfter, nextOf};
+ghost use Rattle.lines.specs.Reader.{lineFrom, placeAfter, placeBehind, lineAfter, cursorAfter, cursorBehind, nextOf};
 
 // The byte that ends a line.
 pub const NEWLINE: u8 = b'\n';
+
+// The largest place that a machine word holds.
+const LAST_PLACE: usize = 18446744073709551615;
 
 // Where reading stands in a text: the next place, and the number of the line there.
 pub struct Cursor {
@@ -45,6 +49,16 @@ fn place_after(text: &[u8], at: usize) -> usize
         return at + line.len() + 1;
     }
     end + 1
+}
+
+// The place behind a line of this length, as far as a machine word holds it.
+fn place_behind(at: usize, length: usize) -> usize
+    ensures { λ r. ⌜ r ≡ placeBehind at length ⌝ }
+{
+    if length < LAST_PLACE - at {
+        return at + length + 1;
+    }
+    LAST_PLACE
 }
 
 // The next line's number, as far as 32 bits hold it.
@@ -89,5 +103,17 @@ pub fn after(text: &[u8], at: usize, line: u32) -> Cursor
     Cursor {
         at: reader.at,
         line: reader.line,
+    }
+}
+
+// The cursor behind a line of this length at a cursor.
+pub fn behind(at: usize, line: u32, length: usize) -> Cursor
+    ensures { λ r. ⌜ r ≡ cursorBehind (record { at = at; line = line }) length ⌝ }
+{
+    let place = place_behind(at, length);
+    let next = line_after(line);
+    Cursor {
+        at: place,
+        line: next,
     }
 }

@@ -4,6 +4,7 @@ use Prim.Native.Nat.{ℕ, _+_, _≤_, _<_}
 use native.Mathlib.Omega.{arith}
 use native.Mathlib.Decide.{decLt}
 use lib.ListN.{getD}
+use Rattle.meaning.specs.Sizes.{mostStrips}
 use Rattle.meaning.proofs.ListingUnique.{agree-sym, agree-trans}
 use Rattle.cells.specs.declared.Left.{Left}
 use Rattle.cells.specs.Cells.{Chart, Formed, step, Same}
@@ -11,7 +12,7 @@ use Rattle.lister.specs.Runs.{RunEnd}
 
 -- the strips from `strip` up to `next` agree, and the last of them leaves `before` or what gives the same labels
 pub record Reached (w : Chart) (field : ℕ) (s : Left) (count strip next : ℕ) (before : Left) : Type 0 where
-  pub few : count ≤ 321
+  pub few : count ≤ mostStrips
   pub rises : strip < next
   pub within : next ≤ count
   pub agrees : (i : ℕ) → strip ≤ i → i < next → Same w (field + 1) (step w field s strip) (step w field s i)

@@ -5,37 +5,32 @@ use mathlib.Core.List.{List, [], _∷_, _++_, map, append-assoc}
 use Prim.Native.Nat.{ℕ, suc, _+_, _*_, _-_, _/_, _≤_, _<_}
 use native.Mathlib.Nat.{add-zero}
 use native.Mathlib.Omega.{arith}
-use native.Mathlib.Numerals.{add-one}
 use borrow.Author.Tests.{lt-ltb, le-ltb}
 use lib.Dec.{ltb}
 use lib.ListN.{length, getD, take, drop, set, length-set, length-drop}
-use lib.Seq.{sets, length-sets, take-all, take-suc, take-suc-set, drop-set-add}
+use lib.Seq.{sets, length-sets, take-all, take-suc-set, drop-set-add}
 use Rattle.meaning.specs.Blocks.{Span}
 use Rattle.meaning.specs.Buffers as buffers
 use Rattle.meaning.specs.Labels.{Label, kind, rule}
 use Rattle.meaning.specs.Listings.{Listed, widen}
-use Rattle.meaning.proofs.BufferStores.{sets-more}
+use Rattle.meaning.specs.Sizes.{fieldCount, blockBounds, rowNumbers, fieldPlaces}
 use Rattle.lister.specs.Rows.{bounds, labelledRow, RowWith, spanAt, stretched, rowOf, rowAt, rowsFrom}
 
--- one more number of v is stored
-pub number-stored : (l v : List ℕ) (at i : ℕ) → i < length v → set (sets l at (take i v)) (at + i) (getD v i 0) ≡ sets l at (take (i + 1) v)
-number-stored l v at i h = sets-more l v at i (getD v i 0) (omega arith) (rw (add-one i) (take-suc v i 0 h))
-
 -- with room for the row, and without
-pub row-fits : (buffer row : List ℕ) (t : ℕ) → t < length buffer / 10 → sets buffer (10 * t) row ≡ rowAt buffer t row
+pub row-fits : (buffer row : List ℕ) (t : ℕ) → t < length buffer / rowNumbers → sets buffer (rowNumbers * t) row ≡ rowAt buffer t row
 unfolding rowAt
-row-fits buffer row t h = simp (lt-ltb t (length buffer / 10) h)
+row-fits buffer row t h = simp (lt-ltb t (length buffer / rowNumbers) h)
 
-pub row-left-out : (buffer row : List ℕ) (t : ℕ) → length buffer / 10 ≤ t → buffer ≡ rowAt buffer t row
+pub row-left-out : (buffer row : List ℕ) (t : ℕ) → length buffer / rowNumbers ≤ t → buffer ≡ rowAt buffer t row
 unfolding rowAt
-row-left-out buffer row t h = simp (le-ltb t (length buffer / 10) h)
+row-left-out buffer row t h = simp (le-ltb t (length buffer / rowNumbers) h)
 
 pub row-length-kept : (buffer row : List ℕ) (t : ℕ) → length (rowAt buffer t row) ≡ length buffer
 unfolding rowAt
-row-length-kept buffer row t = either (ltb t (length buffer / 10))
+row-length-kept buffer row t = either (ltb t (length buffer / rowNumbers))
   where
-    either : (b : Bool) → length (cond b (sets buffer (10 * t) row) buffer) ≡ length buffer
-    either true = length-sets buffer (10 * t) row
+    either : (b : Bool) → length (cond b (sets buffer (rowNumbers * t) row) buffer) ≡ length buffer
+    either true = length-sets buffer (rowNumbers * t) row
     either false = refl
 
 pub rows-length-kept : (buffer : List ℕ) (t : ℕ) (rs : List (List ℕ)) → length (rowsFrom buffer t rs) ≡ length buffer
@@ -49,19 +44,19 @@ rows-append buffer t (r ∷ rs) qs =
     rows-append (rowAt buffer t r) (t + 1) rs qs ∙ ap (λ (k : ℕ). rowsFrom (rowsFrom (rowAt buffer t r) (t + 1) rs) k qs) e
 
 -- the row of a label
-pub labelled-row-is : (row : List ℕ) (l : Label) → length row ≡ 10 → set (set row 0 (kind l)) 1 (rule l) ≡ labelledRow row l
+pub labelled-row-is : (row : List ℕ) (l : Label) → length row ≡ rowNumbers → set (set row 0 (kind l)) 1 (rule l) ≡ labelledRow row l
 unfolding labelledRow
 labelled-row-is [] l e = absurd (omega arith)
 labelled-row-is (x ∷ []) l e = absurd (omega arith)
-labelled-row-is (x ∷ y ∷ r) l e = ap (λ (z : List ℕ). kind l ∷ rule l ∷ z) (sym (take-all 8 r (omega arith)))
+labelled-row-is (x ∷ y ∷ r) l e = ap (λ (z : List ℕ). kind l ∷ rule l ∷ z) (sym (take-all blockBounds r (omega arith)))
 
 -- two stores put the bounds of a field behind those before
-pub row-with-is : (row : List ℕ) (field : ℕ) (s : Span) → length row ≡ 10 → field < 4
+pub row-with-is : (row : List ℕ) (field : ℕ) (s : Span) → length row ≡ rowNumbers → field < fieldCount
     → RowWith row field s (set (set row (2 + 2 * field) (s .low)) (3 + 2 * field) (s .high))
 row-with-is row field s e h =
     let high : 3 + 2 * field ≡ 2 + suc (2 * field) = omega arith in
     let more : 2 * (field + 1) ≡ suc (suc (2 * field)) = omega arith in
-    let long : length (drop 2 row) ≡ 8 = length-drop 2 row ∙ omega arith in
+    let long : length (drop 2 row) ≡ blockBounds = length-drop 2 row ∙ omega arith in
     let one : take (suc (2 * field)) (set (drop 2 row) (2 * field) (s .low)) ≡ take (2 * field) (drop 2 row) ++ (s .low ∷ []) =
     take-suc-set (drop 2 row) (2 * field) (s .low) (omega arith) in
     let two : take (suc (suc (2 * field))) (set (set (drop 2 row) (2 * field) (s .low)) (suc (2 * field)) (s .high))
@@ -97,7 +92,7 @@ module _ (places : List ℕ) (field : ℕ) (row r : List ℕ) (low high : ℕ) (
 
 -- the strip before `next` has ended where `next` begins
 pub span-until : (places : List ℕ) (field low next : ℕ) → 0 < next
-    → spanAt places field low (next - 1) ≡ record { low = getD places (322 * field + low) 0; high = getD places (322 * field + next) 0 - 1 }
+    → spanAt places field low (next - 1) ≡ record { low = getD places (fieldPlaces * field + low) 0; high = getD places (fieldPlaces * field + next) 0 - 1 }
 span-until places field low next h =
     let e : next - 1 + 1 ≡ next = omega arith in
-    ap (λ (j : ℕ). record { low = getD places (322 * field + low) 0; high = getD places (322 * field + j) 0 - 1 }) e
+    ap (λ (j : ℕ). record { low = getD places (fieldPlaces * field + low) 0; high = getD places (fieldPlaces * field + j) 0 - 1 }) e

@@ -7,6 +7,7 @@ use lib.ListN.{length, getD, length-append, length-map}
 use Rattle.meaning.specs.Buffers as buffers
 use Rattle.meaning.specs.Labels.{Label, kind, rule}
 use Rattle.meaning.specs.Listings.{Listed, widen}
+use Rattle.meaning.specs.Sizes.{fieldCount, mostStrips, fieldPlaces}
 use Rattle.cells.specs.declared.Left.{Left}
 use Rattle.cells.specs.Cells.{Chart, Formed, step}
 use Rattle.lister.specs.Rows.{bounds, labelledRow, RowWith, spanAt, rowOf, rowAt, rowsFrom}
@@ -27,7 +28,7 @@ module _ (w : Chart) (places : List ℕ) (field : ℕ) (s : Left) (row buffer₀
   pub record ToldTo (count strip t : ℕ) (buffer : List ℕ) : Type 0 where
     pub is-field : field < length (w .counts)
     pub is-count : count ≡ getD (w .counts) field 0
-    pub few : count ≤ 321
+    pub few : count ≤ mostStrips
     pub within : strip ≤ count
     pub blocks : List (Listed Label)
     pub upto : Upto w field s strip blocks
@@ -99,7 +100,7 @@ module _ (w : Chart) (places : List ℕ) (field : ℕ) (s : Left) (row buffer₀
   pub none-told : blocksBelow w field s ≡ [] → Told (blocksBelow w field s) total buffer₀
   none-told e = told-as [] total buffer₀ (sym e) (omega arith, refl)
 
-  pub one-told : (l : Label) (buffer : List ℕ) → field ≡ 4 → blocksBelow w field s ≡ record { block = []; label = l } ∷ []
+  pub one-told : (l : Label) (buffer : List ℕ) → field ≡ fieldCount → blocksBelow w field s ≡ record { block = []; label = l } ∷ []
       → buffer ≡ rowAt buffer₀ total (labelledRow row l)
       → Told (blocksBelow w field s) (total + 1) buffer
   unfolding labelledRow buffers.bounds
@@ -112,11 +113,11 @@ module _ (w : Chart) (places : List ℕ) (field : ℕ) (s : Left) (row buffer₀
 -- the places of a run are as its row needs them
 pub placed-run : (w : Chart) (places : List ℕ) (field : ℕ) (s : Left) (count strip next : ℕ) → Placed (w .counts) places → count ≡ getD (w .counts) field 0
     → RunEnd w field s count strip next
-    → (getD places (322 * field + strip) 0 < 2 ^ 32) × (0 < getD places (322 * field + next) 0) × (getD places (322 * field + next) 0 ≤ 2 ^ 32)
+    → (getD places (fieldPlaces * field + strip) 0 < 2 ^ 32) × (0 < getD places (fieldPlaces * field + next) 0) × (getD places (fieldPlaces * field + next) 0 ≤ 2 ^ 32)
 placed-run w places field s count strip next p e r =
     let last : next - 1 < getD (w .counts) field 0 = omega (arith, r .rises, r .within) in
     let next-is : next - 1 + 1 ≡ next = omega (arith, r .rises) in (
       p .begins field strip (omega (arith, r .rises, r .within)),
-      subst (λ (j : ℕ). 0 < getD places (322 * field + j) 0) next-is (p .ends-above field (next - 1) last),
-      subst (λ (j : ℕ). getD places (322 * field + j) 0 ≤ 2 ^ 32) next-is (p .ends field (next - 1) last),
+      subst (λ (j : ℕ). 0 < getD places (fieldPlaces * field + j) 0) next-is (p .ends-above field (next - 1) last),
+      subst (λ (j : ℕ). getD places (fieldPlaces * field + j) 0 ≤ 2 ^ 32) next-is (p .ends field (next - 1) last),
     )

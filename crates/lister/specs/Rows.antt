@@ -10,6 +10,7 @@ use Rattle.meaning.specs.Blocks.{Span, Block}
 use Rattle.meaning.specs.Buffers as buffers
 use Rattle.meaning.specs.Labels.{Label, kind, rule}
 use Rattle.meaning.specs.Listings.{Listed}
+use Rattle.meaning.specs.Sizes.{fieldCount, rowNumbers, fieldPlaces}
 use Rattle.cells.specs.Cells.{labelNumber}
 
 -- the bounds of the first fields in a row, which come after its kind and rule
@@ -18,7 +19,7 @@ bounds field row = take (2 * field) (drop 2 row)
 
 -- the row with the kind and rule of a label
 unfoldable pub labelledRow : List ℕ → Label → List ℕ
-labelledRow row l = kind l ∷ rule l ∷ bounds 4 row
+labelledRow row l = kind l ∷ rule l ∷ bounds fieldCount row
 
 -- r is the row with the kind and rule of the label with this number
 abbrev pub RowLabelled : List ℕ → ℕ → List ℕ → Type 0
@@ -28,10 +29,10 @@ RowLabelled row number r = (l : Label) → number ≡ labelNumber l → r ≡ la
 pub record RowWith (row : List ℕ) (field : ℕ) (s : Span) (r : List ℕ) : Type 0 where
   pub more : bounds (field + 1) r ≡ bounds field row ++ (s .low ∷ s .high ∷ [])
 
--- The places of all fields stand one after the other, 322 a field. The numbers of a field from where strip `low` begins to where
+-- The places of all fields stand one after the other. The numbers of a field from where strip `low` begins to where
 -- strip `high` has ended:
 abbrev pub spanAt : List ℕ → ℕ → ℕ → ℕ → Span
-spanAt places field low high = record { low = getD places (322 * field + low) 0; high = getD places (322 * field + (high + 1)) 0 - 1 }
+spanAt places field low high = record { low = getD places (fieldPlaces * field + low) 0; high = getD places (fieldPlaces * field + (high + 1)) 0 - 1 }
 
 -- a block of strips, from a field on, as a block of numbers
 abbrev pub stretched : List ℕ → ℕ → Block → Block
@@ -44,7 +45,7 @@ rowOf places field front b = kind (b .label) ∷ rule (b .label) ∷ (front ++ b
 
 -- a row written as row t of a buffer, if there is room for the whole of it
 unfoldable pub rowAt : List ℕ → ℕ → List ℕ → List ℕ
-rowAt buffer t row = cond (ltb t (length buffer / 10)) (sets buffer (10 * t) row) buffer
+rowAt buffer t row = cond (ltb t (length buffer / rowNumbers)) (sets buffer (rowNumbers * t) row) buffer
 
 -- rows written from row t on
 abbrev pub rowsFrom : List ℕ → ℕ → List (List ℕ) → List ℕ

@@ -1,23 +1,22 @@
 // The fault listing over cells: it walks the strips of each field in order, once for all fields, gathers the runs of strips that
-// are alike, and lists inside each run. A block is written as a row of ten numbers while the lent buffer has room, and counted in
+// are alike, and lists inside each run. A block is written as a row of numbers while the lent buffer has room, and counted in
 // any case. Nothing is listed where nothing is left. It works on masks and strips by number; the places of the strips give a row
 // its bounds.
 
+use blocks::FIELDS;
 use blocks::Span;
-use cells::FIELD_PLACES;
 use cells::Left;
+use layout::FIELD_PLACES;
+use layout::ROW;
 ghost use mathlib.Core.List.{List, [], _∷_, _++_, map};
 ghost use mathlib.Core.Path.{_≡_};
 ghost use Prim.Native.Nat.{ℕ, _+_, _-_, _*_, _^_, _≤_, _<_};
 ghost use lib.ListN.{length, getD};
-ghost use lib.Seq.{sets};
+ghost use Rattle.meaning.specs.Sizes.{fieldCount, fieldPlaces};
 ghost use Rattle.blocks.specs.Vocabulary.{spanOf};
 ghost use Rattle.cells.specs.Cells.{chart, Formed};
 ghost use Rattle.lister.specs.Rows.{bounds, RowLabelled, RowWith, spanAt, rowOf, rowAt, rowsFrom};
 ghost use Rattle.lister.specs.Runs.{RunEnd, Placed, blocksBelow};
-
-// The numbers of a row: kind and rule, and two bounds for each field.
-const ROW: usize = 2 + 2 * cells::FIELDS;
 
 // How many blocks the listing has where all of the sets are left; the first of them are written.
 pub fn list_cells(
@@ -27,7 +26,7 @@ pub fn list_cells(
     places: &[u64],
     buffer: &mut [u32],
 ) -> u64
-    requires { ⌜ length (now counts) ≡ 4 ⌝ }
+    requires { ⌜ length (now counts) ≡ fieldCount ⌝ }
     requires { ⌜ Formed (chart (now words) (now counts)) ⌝ }
     requires { ⌜ Placed (now counts) (now places) ⌝ }
     ensures { λ r. ⌜ r ≡ length (blocksBelow (chart (now (words .entry)) (now (counts .entry))) 0 left) ⌝ }
@@ -48,7 +47,7 @@ fn list_below(
     places: &[u64],
     buffer: &mut [u32],
 ) -> u64
-    requires { ⌜ (field ≤ 4) × (length (now counts) ≡ 4) ⌝ }
+    requires { ⌜ (field ≤ fieldCount) × (length (now counts) ≡ fieldCount) ⌝ }
     requires { ⌜ Formed (chart (now words) (now counts)) ⌝ }
     requires { ⌜ Placed (now counts) (now places) ⌝ }
     requires { ⌜ total + length (blocksBelow (chart (now words) (now counts)) field left) < 2 ^ 64 ⌝ }
@@ -58,7 +57,7 @@ fn list_below(
     if cells::nothing(left) {
         return total;
     }
-    if field == cells::FIELDS {
+    if field == FIELDS {
         let label = cells::label_number(left.rules, left.directives, left.exceptions, words);
         if label == 0 {
             return total;
@@ -108,8 +107,8 @@ fn run_end(
 
 // The numbers of a field from where a strip begins to where the strip before `next` has ended.
 fn span_of(field: usize, strip: usize, next: usize, places: &[u64]) -> Span
-    requires { ⌜ (322 * field + next < length (now places)) × (strip < next) ⌝ }
-    requires { ⌜ (getD (now places) (322 * field + strip) 0 < 2 ^ 32) × (0 < getD (now places) (322 * field + next) 0) × (getD (now places) (322 * field + next) 0 ≤ 2 ^ 32) ⌝ }
+    requires { ⌜ (fieldPlaces * field + next < length (now places)) × (strip < next) ⌝ }
+    requires { ⌜ (getD (now places) (fieldPlaces * field + strip) 0 < 2 ^ 32) × (0 < getD (now places) (fieldPlaces * field + next) 0) × (getD (now places) (fieldPlaces * field + next) 0 ≤ 2 ^ 32) ⌝ }
     ensures { λ r. ⌜ spanOf r ≡ spanAt (now (places .entry)) field strip (next - 1) ⌝ }
 {
     let low = places[FIELD_PLACES * field + strip] as u32;
@@ -119,7 +118,7 @@ fn span_of(field: usize, strip: usize, next: usize, places: &[u64]) -> Span
 
 // The row with the bounds of a field.
 fn row_with(row: [u32; ROW], field: usize, span: Span) -> [u32; ROW]
-    requires { ⌜ field < 4 ⌝ }
+    requires { ⌜ field < fieldCount ⌝ }
     ensures { λ r. ⌜ RowWith row field (spanOf span) r ⌝ }
 {
     let mut out = row;
@@ -145,18 +144,6 @@ fn write_row(row: [u32; ROW], total: u64, buffer: &mut [u32])
     let room = buffer.len() / ROW;
     if total < room as u64 {
         let at = ROW * total as usize;
-        write_numbers(&row, at, buffer);
-    }
-}
-
-// Writes numbers into the buffer from a place on.
-fn write_numbers(numbers: &[u32], at: usize, buffer: &mut [u32])
-    requires { ⌜ at + length (now numbers) ≤ length (now buffer) ⌝ }
-    ensures { λ r. ⌜ now (buffer .exit) ≡ sets (now (buffer .entry)) at (now (numbers .entry)) ⌝ }
-{
-    let mut i: usize = 0;
-    while i < numbers.len() {
-        buffer[at + i] = numbers[i];
-        i += 1;
+        layout::write_numbers(&row, at, buffer);
     }
 }

@@ -7,7 +7,7 @@ use native.Mathlib.Nat.{suc-mul, zero-mul, div-mul-le-self, mul-le-mul-right}
 use lib.ListN.{length, take, drop, getD, length-append, length-drop, length-take}
 use lib.Seq.{take-append-seam, getD-append-add, getD-drop}
 use Rattle.meaning.specs.Blocks.{Block}
-use Rattle.meaning.specs.Buffers.{bounds, row, rows, rowLength, room, written}
+use Rattle.meaning.specs.Buffers.{bounds, spansOf, row, rows, rowLength, room, written}
 use Rattle.meaning.specs.Labels.{Label}
 use Rattle.meaning.specs.Listings.{Listed}
 use Rattle.meaning.specs.Records.{Every, every-none, every-more}
@@ -20,6 +20,12 @@ pub bounds-length : (b : Block) → length (bounds b) ≡ 2 * length b
 unfolding bounds
 bounds-length [] = refl
 bounds-length (s ∷ b) = omega (arith, bounds-length b)
+
+-- a block can be had back from its bounds
+pub spans-of-bounds : (b : Block) → spansOf (bounds b) ≡ b
+unfolding bounds spansOf
+spans-of-bounds [] = refl
+spans-of-bounds (s ∷ b) = ap (λ (c : Block). s ∷ c) (spans-of-bounds b)
 
 pub row-length : (ns : List ℕ) (b : Listed Label) → InForm ns b → length (row b) ≡ rowLength ns
 unfolding row

@@ -2,19 +2,19 @@
 use mathlib.Core.Path.{_≡_}
 use mathlib.Core.Logic.{_↔_}
 use mathlib.Core.List.{List, []}
-use Prim.Native.Nat.{ℕ, _+_, _*_, _≤_}
+use Prim.Native.Nat.{ℕ, _≤_}
 use lib.Dec.{T}
 use lib.ListN.{length}
 use Rattle.meaning.specs.Fields.{Packet, InRange}
-use Rattle.meaning.specs.Form.{mostRules, mostDirectives, mostExceptions}
 use Rattle.meaning.specs.Labels.{Label, good, label}
 use Rattle.meaning.specs.Listings.{Listed, told, Tells, FaultListing}
 use Rattle.meaning.specs.Policies.{Policy}
 use Rattle.meaning.specs.Records.{Every}
 use Rattle.meaning.specs.Rules.{Table}
+use Rattle.meaning.specs.Sizes.{fieldCount, mostListed, mostStrips}
 use Rattle.meaning.specs.Strips.{Cut, sizes, counts, corner, cutFor}
 use Rattle.meaning.proofs.LabelKinds.{sameLabel, same-label-iff}
-use Rattle.meaning.proofs.ListingCount.{four-fields-few}
+use Rattle.meaning.proofs.ListingCount.{fields-few}
 use Rattle.meaning.proofs.ListingExists.{listingOf, listing-computed}
 use Rattle.meaning.proofs.ListingTells.{listing-tells, listing-silent, same-listing-iff-agree}
 use Rattle.meaning.proofs.ListingUnique.{agree-refl, listing-is-unique}
@@ -42,9 +42,9 @@ pub same-listing-iff-same-labels : (ns : List ℕ) (rules others : Table) (polic
 same-listing-iff-same-labels ns rules others policy other bs cs a b = same-listing-iff-agree good ns (label rules policy) (label others other) bs cs a b
 
 -- and its bound, with the strips as a premise: fields cut at every end of a block, into no more strips than sets within their limits can make
-pub fault-listing-few : (cs : List Cut) (rules : Table) (policy : Policy) (bs : List (Listed Label)) → T (cutFor cs rules policy) → length cs ≡ 4
-    → Every (λ n. n ≤ 2 * (mostRules + mostDirectives + mostExceptions) + 1) (counts cs)
+pub fault-listing-few : (cs : List Cut) (rules : Table) (policy : Policy) (bs : List (Listed Label)) → T (cutFor cs rules policy) → length cs ≡ fieldCount
+    → Every (λ n. n ≤ mostStrips) (counts cs)
     → FaultListing (sizes cs) rules policy bs
-    → length bs ≤ 10_617_447_681
-fault-listing-few cs rules policy bs t four few a =
-    four-fields-few sameLabel same-label-iff good cs (λ cell. label rules policy (corner cs cell)) (label rules policy) (label-by-cells cs rules policy t) bs four few a
+    → length bs ≤ mostListed
+fault-listing-few cs rules policy bs t so-many few a =
+    fields-few sameLabel same-label-iff good cs (λ cell. label rules policy (corner cs cell)) (label rules policy) (label-by-cells cs rules policy t) bs so-many few a

@@ -1,5 +1,6 @@
--- The theorems, each once over any list of field sizes. docs/PROMISES.md says each in a line.
+-- The theorems, each once over any list of field sizes. docs/THEOREMS.md says each in a line.
 pub mod Tests
+pub mod Sizes
 pub mod RecordsFirst
 pub mod RecordsEvery
 pub mod PacketOrder

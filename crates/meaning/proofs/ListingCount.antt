@@ -9,9 +9,9 @@ use native.Mathlib.Nat.{suc-mul, zero-mul, mul-comm, mul-le-mul, mul-le-mul-righ
 use lib.ListN.{length, length-append, length-map}
 use lib.Dec.{T}
 use Rattle.meaning.specs.Fields.{Packet}
-use Rattle.meaning.specs.Form.{mostRules, mostDirectives, mostExceptions}
 use Rattle.meaning.specs.Listings.{Listed, Lister, at, Runs, no-more, run, Last, is-good, at-fault, Listing}
 use Rattle.meaning.specs.Records.{Every, every-none, every-more}
+use Rattle.meaning.specs.Sizes.{fieldCount, mostListed, mostStrips}
 use Rattle.meaning.specs.Strips.{Cut, strips, sizes, counts, ByCells, lift}
 use Rattle.meaning.proofs.ListingExists.{listingOf, listing-computed}
 use Rattle.meaning.proofs.StripListing.{listing-lifts}
@@ -65,8 +65,7 @@ module _
         → length bs ≤ m ^ length cs
     listing-within-limits m bs e a = omega (arith, listing-few-by-cells bs a, power m e, ap (λ (k : ℕ). m ^ k) (length-map cs strips))
 
-    -- Four fields, and sets within their limits: each block begins at one place and has just ended at another, and 0 is one more.
-    pub four-fields-few : (bs : List (Listed L)) → length cs ≡ 4 → Every (λ n. n ≤ 2 * (mostRules + mostDirectives + mostExceptions) + 1) (counts cs)
-        → Listing good (sizes cs) f bs
-        → length bs ≤ 10_617_447_681
-    four-fields-few bs four e a = omega (arith, listing-within-limits 321 bs e a, ap (λ (k : ℕ). 321 ^ k) four)
+    -- The fields of document 01, and sets within their limits.
+    pub fields-few : (bs : List (Listed L)) → length cs ≡ fieldCount → Every (λ n. n ≤ mostStrips) (counts cs) → Listing good (sizes cs) f bs
+        → length bs ≤ mostListed
+    fields-few bs so-many e a = omega (arith, listing-within-limits mostStrips bs e a, ap (λ (k : ℕ). mostStrips ^ k) so-many)

@@ -2,9 +2,10 @@
 use mathlib.Core.Logic.{_↔_}
 use mathlib.Core.Bool.{Bool}
 use mathlib.Core.List.{List, [], _∷_, _++_, map}
-use Prim.Native.Nat.{ℕ, zero, suc}
+use Prim.Native.Nat.{ℕ, zero, suc, _<_}
+use native.Mathlib.Omega.{arith}
 use lib.Dec.{T}
-use lib.ListN.{take}
+use lib.ListN.{length, getD, take}
 use Rattle.meaning.specs.Records.{allOf, Every, every-none, every-more}
 use Rattle.meaning.proofs.Tests.{both, left, right}
 
@@ -25,6 +26,23 @@ module _ {A : Type 0} where
   every-take zero e = every-none
   every-take (suc k) every-none = every-none
   every-take (suc k) (every-more h e) = every-more h (every-take k e)
+
+  -- what holds of every record holds of it weakened
+  pub every-weaker : {P Q : A → Type 0} → ((x : A) → P x → Q x) → {xs : List A} → Every P xs → Every Q xs
+  every-weaker weaker every-none = every-none
+  every-weaker weaker (every-more {x} h v) = every-more (weaker x h) (every-weaker weaker v)
+
+  -- it holds of those in the middle
+  pub every-between : {P : A → Type 0} (before ys after : List A) → Every P (before ++ ys ++ after) → Every P ys
+  every-between [] [] after v = every-none
+  every-between [] (y ∷ ys) after (every-more h v) = every-more h (every-between [] ys after v)
+  every-between (x ∷ before) ys after (every-more h v) = every-between before ys after v
+
+  -- it holds of the one at each index
+  pub every-at : {P : A → Type 0} {xs : List A} (i : ℕ) (d : A) → Every P xs → i < length xs → P (getD xs i d)
+  every-at i d every-none h = absurd (omega arith)
+  every-at zero d (every-more p v) h = p
+  every-at (suc i) d (every-more p v) h = every-at i d v (omega arith)
 
   -- every record passes a test
   pub all-of-iff : (test : A → Bool) (xs : List A) → T (allOf test xs) ↔ Every (λ x. T (test x)) xs

@@ -11,6 +11,12 @@ unfoldable pub bounds : Block → List ℕ
 bounds [] = []
 bounds (s ∷ b) = s .low ∷ s .high ∷ bounds b
 
+-- the block with these bounds, a low and a high one for each span
+unfoldable pub spansOf : List ℕ → Block
+spansOf [] = []
+spansOf (low ∷ []) = []
+spansOf (low ∷ high ∷ numbers) = record { low = low; high = high } ∷ spansOf numbers
+
 -- the numbers of a block: kind, rule, bounds
 unfoldable pub row : Listed Label → List ℕ
 row b = kind (b .label) ∷ rule (b .label) ∷ bounds (b .block)

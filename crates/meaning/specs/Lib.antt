@@ -1,5 +1,5 @@
--- The meaning of the papers. Read the files in the order below; all but Records and Strips restate sentences of the papers,
--- and words in quotation marks are theirs. Those two hold what the others need to be said shortly.
+-- The meaning of the papers. Read the files in the order below; all but Records, Strips and Sizes restate sentences of the papers,
+-- and words in quotation marks are theirs. Those three hold what the others need to be said shortly.
 --
 -- How to read them. Numbers: `suc n` is n + 1, `leb`, `ltb` and `eqb` test ≤, < and =. Lists: `x ∷ xs` has the first element x, `[]`
 -- is empty, `++` joins two; `length`, `take k`, `drop k` and `map f` are what they are called; `getD xs i d` is element i, counted
@@ -27,4 +27,5 @@ pub mod Listings
 pub mod Buffers
 pub mod Strips
 pub mod Form
+pub mod Sizes
 pub mod Document

@@ -15,8 +15,6 @@ use Rattle.meaning.specs.Records.{allOf, numbered}
 use Rattle.meaning.specs.Rules.{Rule}
 use Rattle.meaning.proofs.FormGrowing.{lastNamed, last-named, directive-added, exception-added}
 use Rattle.meaning.proofs.Tests.{passed, passes}
-use Rattle.parts.specs.Fields.{fieldCount}
-use Rattle.parts.specs.Words.{bytes}
 use Rattle.blocks.specs.Vocabulary.{blockOf}
 use Rattle.blocks.specs.declared.Block.{Block}
 use Rattle.sets.specs.Empty.{emptyPolicy, PolicyZeroPast}
@@ -27,15 +25,9 @@ use Rattle.sets.specs.declared.Directive.{Directive}
 use Rattle.sets.specs.declared.Exception.{Exception}
 use Rattle.sets.specs.declared.Refusal.{Refusal}
 use Rattle.sets.proofs.Padding.{nothing-asked, policy-zero, policy-unrefused, all-more}
-use Rattle.texts.specs.Texts.{Said, goes, stops, refusal}
+use Rattle.texts.specs.Texts.{goes, stops, refusal}
 use Rattle.texts.proofs.Reading.{Keeps, kept, answered}
-use Rattle.records.specs.Records.{skipped, named, readBlock, onBlock, readFive, onFive}
-use Rattle.records.specs.declared.BlockRead.the-variants as block
-use Rattle.records.specs.declared.BlockRead.{BlockRead}
-use Rattle.records.specs.declared.FiveRead.the-variants as five
-use Rattle.records.specs.declared.FiveRead.{FiveRead}
-use Rattle.records.proofs.Forming.{ReadInForm, read-block-in-form, FiveInForm, read-five-in-form}
-use Rattle.policy_text.specs.PolicyTexts.{butFields, askLine, butLine, policyLine, Asked, nothingAsked, nearest, ask, but, onPolicyLine, saidPolicy, allAsked, noneAsked, readPolicy}
+use Rattle.policy_text.specs.PolicyTexts.{policyLine, Asked, nothingAsked, nearest, ask, but, onPolicyLine, saidPolicy, allAsked, noneAsked, readPolicy}
 use Rattle.policy_text.specs.declared.PolicyLine.the-variants.{Skipped, Ask, But, Not}
 use Rattle.policy_text.specs.declared.PolicyLine.{PolicyLine}
 use Rattle.policy_text.specs.declared.PolicyRead.{PolicyRead}
@@ -80,8 +72,8 @@ kept-but s b h some-asked spare lies formed =
       asked-in-form = h .asked-in-form;
       excepted-in-form =
           subst (λ (es : List form.Exception). T (exceptionsInForm fields (map directiveOf (s .directives)) 0 es)) (sym more)
-          (exception-added fields (map directiveOf (s .directives)) 0 (map exceptionOf (s .exceptions)) (exceptionOf e) (last .0) (h .excepted-in-form) (h .named-so-far) (last .1)
-          (passes _ (ap (inside (blockOf b)) (last .2) ∙ lies)) (passes _ formed));
+          (exception-added fields (map directiveOf (s .directives)) 0 (map exceptionOf (s .exceptions)) (exceptionOf e) (last .0)
+          (h .excepted-in-form) (h .named-so-far) (last .1) (passes _ (ap (inside (blockOf b)) (last .2) ∙ lies)) (passes _ formed));
       named-so-far =
           subst (λ (es : List form.Exception). lastNamed 0 es ≤ length (s .directives)) (sym more)
           (subst (λ (n : ℕ). n ≤ length (s .directives)) (sym (last-named 0 (map exceptionOf (s .exceptions)) (exceptionOf e))) (omega arith));
@@ -122,7 +114,8 @@ none-kept = record { few-asked = omega arith; few-excepted = omega arith; asked-
 
 read-right : (text : List ℕ) → Right (readPolicy text)
 unfolding readPolicy
-read-right text = kept saidPolicy allAsked noneAsked Kept Right keeps (λ s h. right s h (refusal 0 0 0)) (λ s r. right nothingAsked none-kept r) nothingAsked text none-kept
+read-right text =
+    kept saidPolicy allAsked noneAsked Kept Right keeps (λ s h. right s h (refusal 0 0 0)) (λ s r. right nothingAsked none-kept r) nothingAsked text none-kept
 
 pub policy-read-in-form : (text : List ℕ) → refusePolicy fields (policySetOf (readPolicy text .policy)) ≡ unrefused
 policy-read-in-form text = read-right text .0

@@ -3,14 +3,18 @@ use mathlib.Core.Bool.{Bool, true, false, cond, not}
 use mathlib.Core.List.{List, [], _∷_, _++_}
 use mathlib.Core.Path.{_≡_, refl, ap, sym, subst, _∙_}
 use native.Mathlib.Omega.{arith}
-use Prim.Native.Nat.{ℕ, _≤_, _<_}
+use Prim.Native.Nat.{ℕ, _+_, _≤_, _<_}
 use borrow.Author.Tests.{leb-false, eqb-false}
+use denote.Ref.{RefT}
 use lib.Dec.{eqb, leb}
 use lib.ListN.{length, length-append}
+use Rattle.contracts.specs.Answers.{seen}
 use Rattle.meaning.specs.Blocks.{inside}
 use Rattle.meaning.specs.Fields.{fields}
 use Rattle.meaning.specs.Form.{mostDirectives, mostExceptions, blockInForm}
+use Rattle.meaning.specs.Sizes as sizes
 use Rattle.parts.specs.Fields.{fieldCount}
+use Rattle.parts.specs.Parts.{shown}
 use Rattle.parts.specs.Words.{bytes}
 use Rattle.blocks.specs.Vocabulary.{blockOf}
 use Rattle.blocks.specs.declared.Block.{Block}
@@ -21,18 +25,20 @@ use Rattle.sets.specs.Listed.{padded, policySet}
 use Rattle.sets.specs.declared.Directive.{Directive}
 use Rattle.sets.specs.declared.Policy.{Policy}
 use Rattle.sets.proofs.Padding.{padded-set}
-use Rattle.lines.specs.Reader.{lineAt, cursorAfter}
+use Rattle.lines.specs.Reader.{lineAt, lineFrom, cursorAfter, cursorBehind}
 use Rattle.lines.specs.declared.Cursor.{Cursor}
+use Rattle.lines.proofs.Stepping.{found-bytes, found-after}
 use Rattle.texts.specs.Texts.{mostBytes, refusal, linesOf, Said, goes, stops, readFrom}
 use Rattle.texts.proofs.Reading.{Reading, begun, stepped, halted, finished}
-use Rattle.records.specs.Records.{skipped, named, readBlock, onBlock, readFive, onFive}
+use Rattle.records.specs.Records.{skipped, named, readBlock, onBlock, readRecord, onRecord}
 use Rattle.records.specs.declared.BlockRead.the-variants as block
 use Rattle.records.specs.declared.BlockRead.{BlockRead}
-use Rattle.records.specs.declared.FiveRead.the-variants as five
-use Rattle.records.specs.declared.FiveRead.{FiveRead}
-use Rattle.records.proofs.Forming.{ReadInForm, read-block-in-form, FiveInForm, read-five-in-form}
+use Rattle.records.specs.declared.RecordRead.the-variants as common
+use Rattle.records.specs.declared.RecordRead.{RecordRead}
+use Rattle.records.proofs.Forming.{ReadInForm, read-block-in-form, RecordInForm, read-record-in-form}
 use Rattle.policy_text.specs.Inner.{askAdded, butAdded}
-use Rattle.policy_text.specs.PolicyTexts.{butFields, askLine, butLine, policyLine, Asked, nothingAsked, nearest, ask, but, onPolicyLine, saidPolicy, allAsked, noneAsked}
+use Rattle.policy_text.specs.PolicyTexts.{butFields, askLine, butLine, policyLine}
+use Rattle.policy_text.specs.PolicyTexts.{Asked, nothingAsked, nearest, ask, but, onPolicyLine, saidPolicy, allAsked, noneAsked}
 use Rattle.policy_text.specs.declared.PolicyLine.the-variants.{Skipped, Ask, But, Not}
 use Rattle.policy_text.specs.declared.PolicyLine.{PolicyLine}
 
@@ -47,23 +53,27 @@ SaidRight asked excepted above (Not number field) = Unit {0}
 module _ (asked excepted : ℕ) (above : Block) (line : List ℕ) where
   ask-right : SaidRight asked excepted above (askLine asked line)
   unfolding askLine
-  ask-right = go (readFive (leb mostDirectives asked) line) (read-five-in-form (leb mostDirectives asked) line)
+  ask-right = go (readRecord (leb mostDirectives asked) line) (read-record-in-form (leb mostDirectives asked) line)
     where
-      go : (x : FiveRead) → FiveInForm (leb mostDirectives asked) x → SaidRight asked excepted above (onFive x Not (λ e d. Ask (record { action = e; block = d })))
-      go (five.Not number field) h = tt
-      go (five.Are e d) h = (leb-false mostDirectives asked (h .0), h .1)
+      go : (x : RecordRead) → RecordInForm (leb mostDirectives asked) x
+          → SaidRight asked excepted above (onRecord x Not (λ e d. Ask (record { action = e; block = d })))
+      go (common.Not number field) h = tt
+      go (common.Are e d) h = (leb-false mostDirectives asked (h .0), h .1)
 
   but-right : SaidRight asked excepted above (butLine asked excepted above line)
   unfolding butLine butFields
-  but-right = go (not (eqb (fieldCount line) 5)) (eqb asked 0) refl (leb mostExceptions excepted) refl (readBlock line 2) (read-block-in-form line 2)
+  but-right =
+      go (not (eqb (fieldCount line) (1 + sizes.fieldCount))) (eqb asked 0) refl (leb mostExceptions excepted) refl
+      (readBlock line 2) (read-block-in-form line 2)
     where
-      lies : (d : Block) (b : Bool) → inside (blockOf d) (blockOf above) ≡ b → eqb asked 0 ≡ false → excepted < mostExceptions → blockInForm fields (blockOf d) ≡ true
-          → SaidRight asked excepted above (cond b (But d) (Not 12 0))
+      lies : (d : Block) (b : Bool) → inside (blockOf d) (blockOf above) ≡ b → eqb asked 0 ≡ false → excepted < mostExceptions
+          → blockInForm fields (blockOf d) ≡ true → SaidRight asked excepted above (cond b (But d) (Not 12 0))
       lies d true e z h f = (let some = eqb-false asked 0 z in omega arith, h, e, f)
       lies d false e z h f = tt
 
       go : (a z : Bool) → eqb asked 0 ≡ z → (b : Bool) → leb mostExceptions excepted ≡ b → (y : BlockRead) → ReadInForm y
-          → SaidRight asked excepted above (cond a (Not 4 0) (cond z (Not 11 0) (cond b (Not 13 0) (onBlock y Not (λ d. cond (inside (blockOf d) (blockOf above)) (But d) (Not 12 0))))))
+          → SaidRight asked excepted above
+          (cond a (Not 4 0) (cond z (Not 11 0) (cond b (Not 13 0) (onBlock y Not (λ d. cond (inside (blockOf d) (blockOf above)) (But d) (Not 12 0))))))
       go true z e b h y f = tt
       go false true e b h y f = tt
       go false false e true h y f = tt
@@ -131,9 +141,16 @@ read-all t c p above h out =
     (λ i. record { refusal = refusal 0 0 0; policy = h .is i })
     ∙ sym (finished saidPolicy allAsked noneAsked says-nothing nothingAsked t (c .at) (c .line) (h .s) (h .reading) out)
 
--- one turn: the line at the cursor says o
-module _ (t : List ℕ) (c : Cursor) (p : Policy) (above : Block) (h : Read t c p above) (fits : length t ≤ mostBytes) (inside : c .at < length t)
-    (o : PolicyLine) (said : o ≡ policyLine (p .«directive_count») (p .«exception_count») above (lineAt t (c .at))) where
+-- one turn: the line that was found at the cursor says o
+module _ (text : RefT (List ℕ)) (c : Cursor) (p : Policy) (above : Block) (h : Read (text .now) c p above) (fits : length (text .now) ≤ mostBytes)
+    (inside : c .at < length (text .now)) (line : RefT (List ℕ)) (found : seen line ≡ shown text (lineFrom (text .now) (c .at)))
+    (o : PolicyLine) (said : o ≡ policyLine (p .«directive_count») (p .«exception_count») above (line .now)) where
+  abbrev t : List ℕ
+  t = text .now
+
+  said-there : o ≡ policyLine (p .«directive_count») (p .«exception_count») above (lineAt t (c .at))
+  said-there = said ∙ ap (policyLine (p .«directive_count») (p .«exception_count») above) (found-bytes text line c found)
+
   abbrev then : PolicyLine → Said Asked
   then x = onPolicyLine x (goes (h .s)) (λ d. goes (ask (h .s) d)) (λ b. goes (but (h .s) b)) stops
 
@@ -142,12 +159,13 @@ module _ (t : List ℕ) (c : Cursor) (p : Policy) (above : Block) (h : Read t c 
       ap then
       (ap (λ (x : Policy). policyLine (x .«directive_count») (x .«exception_count») (nearest (h .s .directives)) (lineAt t (c .at))) (sym (h .is))
       ∙ ap (λ (b : Block). policyLine (p .«directive_count») (p .«exception_count») b (lineAt t (c .at))) (sym (h .above-is))
-      ∙ sym said
+      ∙ sym said-there
       ∙ e)
 
   pub right : (o′ : PolicyLine) → o ≡ o′ → SaidRight (p .«directive_count») (p .«exception_count») above o′
   right o′ e =
-      subst (SaidRight (p .«directive_count») (p .«exception_count») above) (sym said ∙ e) (said-right (p .«directive_count») (p .«exception_count») above (lineAt t (c .at)))
+      subst (SaidRight (p .«directive_count») (p .«exception_count») above) (sym said-there ∙ e)
+      (said-right (p .«directive_count») (p .«exception_count») above (lineAt t (c .at)))
 
   asked-is : p .«directive_count» ≡ length (h .s .directives)
   asked-is = ap (λ (x : Policy). x .«directive_count») (h .is)
@@ -158,10 +176,18 @@ module _ (t : List ℕ) (c : Cursor) (p : Policy) (above : Block) (h : Read t c 
   pub few-asked : p .«directive_count» ≤ mostDirectives
   few-asked = omega (arith, asked-is, h .few)
 
-  pub read-skip : (c′ : Cursor) → c′ ≡ cursorAfter t c → o ≡ Skipped → Read t c′ p above
-  read-skip c′ q e = record { s = h .s; few = h .few; is = h .is; above-is = h .above-is; reading = stepped saidPolicy allAsked noneAsked says-nothing nothingAsked t (c .at) (c .line) (h .s) (h .reading) fits inside c′ q (h .s) (says Skipped e) }
+  -- reading stands behind the line, which says this
+  read-on : (c′ : Cursor) → c′ ≡ cursorBehind c (length (line .now)) → (s : Asked) → saidPolicy (h .s) (lineAt t (c .at)) ≡ goes s
+      → Reading saidPolicy allAsked noneAsked nothingAsked t (c′ .at) (c′ .line) s
+  read-on c′ q s e =
+      let moved : c′ ≡ cursorAfter t c = found-after text line c found inside (omega arith) c′ q in
+      stepped saidPolicy allAsked noneAsked says-nothing nothingAsked t (c .at) (c .line) (h .s) (h .reading) fits inside c′ moved s e
 
-  pub read-ask : (c′ : Cursor) (p′ : Policy) (d : Directive) → c′ ≡ cursorAfter t c → p′ ≡ askAdded p d → o ≡ Ask d → Read t c′ p′ (d .block)
+  pub read-skip : (c′ : Cursor) → c′ ≡ cursorBehind c (length (line .now)) → o ≡ Skipped → Read t c′ p above
+  read-skip c′ q e = record { s = h .s; few = h .few; is = h .is; above-is = h .above-is; reading = read-on c′ q (h .s) (says Skipped e) }
+
+  pub read-ask : (c′ : Cursor) (p′ : Policy) (d : Directive)
+      → c′ ≡ cursorBehind c (length (line .now)) → p′ ≡ askAdded p d → o ≡ Ask d → Read t c′ p′ (d .block)
   read-ask c′ p′ d q w e =
       let spare = right (Ask d) e .0 in
       record {
@@ -169,17 +195,17 @@ module _ (t : List ℕ) (c : Cursor) (p : Policy) (above : Block) (h : Read t c 
         few = omega (arith, asked-is, spare, length-append (h .s .directives) (d ∷ []));
         is = w ∙ ap (λ (x : Policy). askAdded x d) (h .is) ∙ ask-is (h .s) d (omega (arith, asked-is, spare));
         above-is = sym (nearest-last (h .s .directives) d);
-        reading = stepped saidPolicy allAsked noneAsked says-nothing nothingAsked t (c .at) (c .line) (h .s) (h .reading) fits inside c′ q (ask (h .s) d) (says (Ask d) e);
+        reading = read-on c′ q (ask (h .s) d) (says (Ask d) e);
       }
 
-  pub read-but : (c′ : Cursor) (p′ : Policy) (b : Block) → c′ ≡ cursorAfter t c → p′ ≡ butAdded p b → o ≡ But b → Read t c′ p′ above
+  pub read-but : (c′ : Cursor) (p′ : Policy) (b : Block) → c′ ≡ cursorBehind c (length (line .now)) → p′ ≡ butAdded p b → o ≡ But b → Read t c′ p′ above
   read-but c′ p′ b q w e =
       record {
         s = but (h .s) b;
         few = h .few;
         is = w ∙ ap (λ (x : Policy). butAdded x b) (h .is) ∙ but-is (h .s) b (omega (arith, excepted-is, right (But b) e .1));
         above-is = h .above-is;
-        reading = stepped saidPolicy allAsked noneAsked says-nothing nothingAsked t (c .at) (c .line) (h .s) (h .reading) fits inside c′ q (but (h .s) b) (says (But b) e);
+        reading = read-on c′ q (but (h .s) b) (says (But b) e);
       }
 
   pub read-stop : (k f : ℕ) → o ≡ Not k f → readFrom saidPolicy allAsked noneAsked 1 nothingAsked (linesOf t) ≡ noneAsked nothingAsked (refusal k (c .line) f)

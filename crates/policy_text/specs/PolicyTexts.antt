@@ -2,11 +2,12 @@
 -- "In a line: 3, 4, 11, 13, then fields from the left, then 12."
 use mathlib.Core.Bool.{cond, not}
 use mathlib.Core.List.{List, [], _∷_, _++_}
-use Prim.Native.Nat.{ℕ}
+use Prim.Native.Nat.{ℕ, _+_}
 use lib.Dec.{eqb, leb}
 use lib.ListN.{length}
 use Rattle.meaning.specs.Blocks.{inside}
 use Rattle.meaning.specs.Form.{mostDirectives, mostExceptions}
+use Rattle.meaning.specs.Sizes as sizes
 use Rattle.parts.specs.Fields.{fieldCount}
 use Rattle.parts.specs.Words.{bytes}
 use Rattle.blocks.specs.Vocabulary.{blockOf}
@@ -17,14 +18,14 @@ use Rattle.sets.specs.declared.Directive.{Directive}
 use Rattle.sets.specs.declared.Exception.{Exception}
 use Rattle.sets.specs.declared.Refusal.{Refusal}
 use Rattle.texts.specs.Texts.{Said, goes, stops, refusal, readText}
-use Rattle.records.specs.Records.{skipped, named, readBlock, onBlock, readFive, onFive}
+use Rattle.records.specs.Records.{skipped, named, readBlock, onBlock, readRecord, onRecord}
 use Rattle.policy_text.specs.declared.PolicyLine.the-variants.{Skipped, Ask, But, Not}
 use Rattle.policy_text.specs.declared.PolicyLine.{PolicyLine}
 use Rattle.policy_text.specs.declared.PolicyRead.{PolicyRead}
 
 -- an `ask` line, after so many directives
 unfoldable pub askLine : ℕ → List ℕ → PolicyLine
-askLine asked line = onFive (readFive (leb mostDirectives asked) line) Not (λ a b. Ask (record { action = a; block = b }))
+askLine asked line = onRecord (readRecord (leb mostDirectives asked) line) Not (λ a b. Ask (record { action = a; block = b }))
 
 -- what a `but` line says in its fields, under a directive of this block: the fields, and then 12
 unfoldable pub butFields : Block → List ℕ → PolicyLine
@@ -32,10 +33,10 @@ butFields above line =
     onBlock (readBlock line 2) Not (λ b.
     cond (inside (blockOf b) (blockOf above)) (But b) (Not 12 0))
 
--- a `but` line, after so many directives and exceptions, under the nearest directive above
+-- a `but` line, its word and a block, after so many directives and exceptions, under the nearest directive above
 unfoldable pub butLine : ℕ → ℕ → Block → List ℕ → PolicyLine
 butLine asked excepted above line =
-    cond (not (eqb (fieldCount line) 5)) (Not 4 0)
+    cond (not (eqb (fieldCount line) (1 + sizes.fieldCount))) (Not 4 0)
     (cond (eqb asked 0) (Not 11 0)
     (cond (leb mostExceptions excepted) (Not 13 0)
     (butFields above line)))

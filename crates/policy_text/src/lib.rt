@@ -3,10 +3,11 @@
 // what specs/PolicyTexts defines for the bytes. What was read is in form and zero past its counts (proofs/Formed).
 
 use blocks::Block;
+use blocks::FIELDS;
 use lines::Cursor;
 use parts::TAB;
 use records::BlockRead;
-use records::FiveRead;
+use records::RecordRead;
 use sets::Directive;
 use sets::Exception;
 use sets::MOST_DIRECTIVES;
@@ -18,10 +19,12 @@ ghost use mathlib.Core.Path.{_≡_};
 ghost use Prim.Native.Nat.{_≤_, _<_};
 ghost use lib.ListN.{length};
 ghost use Rattle.meaning.specs.Form.{mostDirectives, mostExceptions};
-ghost use Rattle.lines.specs.Reader.{lineFrom};
 ghost use Rattle.texts.specs.Texts.{mostBytes, linesOf, readFrom};
 ghost use Rattle.policy_text.specs.Inner.{askAdded, butAdded};
 ghost use Rattle.policy_text.specs.PolicyTexts.{butFields, askLine, butLine, policyLine, nothingAsked, saidPolicy, allAsked, noneAsked, readPolicy};
+
+// The fields of a `but` line: its word, and those of a block.
+const BUT_FIELDS: usize = 1 + FIELDS;
 
 // What reading hands back: the refusal, all zeros if there is none, and the policy, an empty one if there is one.
 pub struct PolicyRead {
@@ -68,8 +71,9 @@ fn read_lines(text: &[u8]) -> PolicyRead
         let line = cursor.line;
         let asked = policy.directive_count;
         let excepted = policy.exception_count;
-        let said = policy_at(text, cursor, asked, excepted, above);
-        cursor = lines::after(text, cursor.at, cursor.line);
+        let found = lines::line_at(text, cursor.at, cursor.line);
+        let said = policy_line(found, asked, excepted, above);
+        cursor = lines::behind(cursor.at, cursor.line, found.len());
         match said {
             PolicyLine::Skipped => {}
             PolicyLine::Ask(directive) => {
@@ -90,18 +94,6 @@ fn read_lines(text: &[u8]) -> PolicyRead
     }
     let refusal = Refusal::NONE;
     PolicyRead { refusal, policy }
-}
-
-// What the line at a cursor says, after so many directives and exceptions, under the nearest directive above.
-fn policy_at(text: &[u8], cursor: Cursor, asked: usize, excepted: usize, above: Block) -> PolicyLine
-    ensures { λ r. ⌜ r ≡ policyLine asked excepted above (lineFrom (now (text .entry)) (cursor .at) .bytes) ⌝ }
-{
-    policy_line(
-        lines::line_at(text, cursor.at, cursor.line),
-        asked,
-        excepted,
-        above,
-    )
 }
 
 // What a line says, after so many directives and exceptions, under the nearest directive above.
@@ -125,9 +117,9 @@ fn ask_line(line: &[u8], asked: usize) -> PolicyLine
     ensures { λ r. ⌜ r ≡ askLine asked (now (line .entry)) ⌝ }
 {
     let full = MOST_DIRECTIVES <= asked;
-    match records::read_five(line, full) {
-        FiveRead::Are(action, block) => PolicyLine::Ask(Directive { action, block }),
-        FiveRead::Not(number, field) => PolicyLine::Not(number, field),
+    match records::read_record(line, full) {
+        RecordRead::Are(action, block) => PolicyLine::Ask(Directive { action, block }),
+        RecordRead::Not(number, field) => PolicyLine::Not(number, field),
     }
 }
 
@@ -136,7 +128,7 @@ fn but_line(line: &[u8], asked: usize, excepted: usize, above: Block) -> PolicyL
     ensures { λ r. ⌜ r ≡ butLine asked excepted above (now (line .entry)) ⌝ }
 {
     let fields = parts::count(line, TAB);
-    if fields != 5 {
+    if fields != BUT_FIELDS {
         return PolicyLine::Not(4, 0);
     }
     if asked == 0 {

@@ -14,8 +14,8 @@ use Rattle.meaning.specs.Form.{Refusal}
 use Rattle.meaning.specs.Labels.{Label, good, conflict, wrong, unasked, unmet-accept, unmet-deny, kind, rule}
 use Rattle.meaning.specs.Verdicts.{Verdict}
 use Rattle.parts.specs.Words.{bytes, newline}
+use Rattle.putting.specs.Spelling.{digit, decimalBelow, decimal, quad}
 use Rattle.printing.specs.Lines.{spaced, line, spellings, numbersOf, boundsOf, word, verdictFields, verdictLine, blocksLine, blockLine, refusedLine, unreadableLine}
-use Rattle.printing.specs.Spelling.{digit, decimalBelow, decimal, quad}
 
 -- a number has at most 20 digits, a quad at most 83 bytes
 below-few : (k n : ℕ) → length (decimalBelow k n) ≤ k
@@ -55,38 +55,51 @@ field-length f fs = ap suc (length-append f (spaced fs))
 line-length : (first : List ℕ) (fs : List (List ℕ)) → length (line first fs) ≡ length first + (length (spaced fs) + 1)
 line-length first fs = length-append first (spaced fs ++ (newline ∷ [])) ∙ ap (λ (n : ℕ). length first + n) (length-append (spaced fs) (newline ∷ []))
 
--- the bounds of a block and the numbers of a packet, one spelling more
-bounds-more : (f : ℕ → List ℕ) (fs : List (ℕ → List ℕ)) (m k : ℕ) → ((n : ℕ) → length (f n) ≤ m) → ((b : Block) → length (spaced (boundsOf fs b)) ≤ k)
-    → (b : Block) → length (spaced (boundsOf (f ∷ fs) b)) ≤ 2 * (m + 1) + k
-bounds-more f fs m k one others [] = omega arith
-bounds-more f fs m k one others (s ∷ b) =
+-- each spelling of a list is at most so long, by a list of numbers
+data Fits : List (ℕ → List ℕ) → List ℕ → Type 0 where
+  fits-none : Fits [] []
+  fits-more : {f : ℕ → List ℕ} {m : ℕ} {fs : List (ℕ → List ℕ)} {ms : List ℕ} → ((n : ℕ) → length (f n) ≤ m) → Fits fs ms → Fits (f ∷ fs) (m ∷ ms)
+
+-- how long the bounds of a block and the numbers of a packet can then be
+abbrev pub boundsRoom : List ℕ → ℕ
+boundsRoom [] = 0
+boundsRoom (m ∷ ms) = 2 * (m + 1) + boundsRoom ms
+
+abbrev pub numbersRoom : List ℕ → ℕ
+numbersRoom [] = 0
+numbersRoom (m ∷ ms) = (m + 1) + numbersRoom ms
+
+bounds-fit : {fs : List (ℕ → List ℕ)} {ms : List ℕ} → Fits fs ms → (b : Block) → length (spaced (boundsOf fs b)) ≤ boundsRoom ms
+bounds-fit fits-none b = omega arith
+bounds-fit (fits-more one others) [] = omega arith
+bounds-fit (fits-more {f} {fs = fs} one others) (s ∷ b) =
     omega (
       arith,
       field-length (f (s .low)) (f (s .high) ∷ boundsOf fs b),
       field-length (f (s .high)) (boundsOf fs b),
       one (s .low),
       one (s .high),
-      others b,
+      bounds-fit others b,
     )
 
-numbers-more : (f : ℕ → List ℕ) (fs : List (ℕ → List ℕ)) (m k : ℕ) → ((n : ℕ) → length (f n) ≤ m) → ((p : Packet) → length (spaced (numbersOf fs p)) ≤ k)
-    → (p : Packet) → length (spaced (numbersOf (f ∷ fs) p)) ≤ (m + 1) + k
-numbers-more f fs m k one others [] = omega arith
-numbers-more f fs m k one others (x ∷ p) = omega (arith, field-length (f x) (numbersOf fs p), one x, others p)
+numbers-fit : {fs : List (ℕ → List ℕ)} {ms : List ℕ} → Fits fs ms → (p : Packet) → length (spaced (numbersOf fs p)) ≤ numbersRoom ms
+numbers-fit fits-none p = omega arith
+numbers-fit (fits-more one others) [] = omega arith
+numbers-fit (fits-more {f} {fs = fs} one others) (x ∷ p) = omega (arith, field-length (f x) (numbersOf fs p), one x, numbers-fit others p)
 
-bounds-few : (b : Block) → length (spaced (boundsOf spellings b)) ≤ 420
-bounds-few =
-    bounds-more quad (quad ∷ decimal ∷ decimal ∷ []) 83 252 quad-few
-    (bounds-more quad (decimal ∷ decimal ∷ []) 83 84 quad-few
-    (bounds-more decimal (decimal ∷ []) 20 42 decimal-few
-    (bounds-more decimal [] 20 0 decimal-few (λ b. omega arith))))
+-- the longest of each field's spelling
+abbrev pub longest : List ℕ
+longest = 83 ∷ 83 ∷ 20 ∷ 20 ∷ []
 
-numbers-few : (p : Packet) → length (spaced (numbersOf spellings p)) ≤ 210
-numbers-few =
-    numbers-more quad (quad ∷ decimal ∷ decimal ∷ []) 83 126 quad-few
-    (numbers-more quad (decimal ∷ decimal ∷ []) 83 42 quad-few
-    (numbers-more decimal (decimal ∷ []) 20 21 decimal-few
-    (numbers-more decimal [] 20 0 decimal-few (λ p. omega arith))))
+spellings-fit : Fits spellings longest
+spellings-fit = fits-more quad-few (fits-more quad-few (fits-more decimal-few (fits-more decimal-few fits-none)))
+
+-- the longest line of a block and of a verdict
+abbrev pub mostBlockLine : ℕ
+mostBlockLine = boundsRoom longest + 48
+
+abbrev pub mostVerdictLine : ℕ
+mostVerdictLine = numbersRoom longest + 84
 
 word-few : (l : Label) → length (word l) ≤ 12
 word-few good = omega arith
@@ -97,7 +110,7 @@ word-few unmet-accept = omega arith
 word-few unmet-deny = omega arith
 
 -- each line
-pub block-line-few : (k r : ℕ) (b : Block) → length (blockLine k r b) ≤ 468
+pub block-line-few : (k r : ℕ) (b : Block) → length (blockLine k r b) ≤ mostBlockLine
 unfolding blockLine
 block-line-few k r b =
     let bs = boundsOf spellings b in
@@ -108,14 +121,14 @@ block-line-few k r b =
       field-length (decimal r) bs,
       decimal-few k,
       decimal-few r,
-      bounds-few b,
+      bounds-fit spellings-fit b,
     )
 
 pub blocks-line-few : (n : ℕ) → length (blocksLine n) ≤ 28
 unfolding blocksLine
 blocks-line-few n = omega (arith, line-length (bytes "blocks") (decimal n ∷ []), field-length (decimal n) [], decimal-few n)
 
-pub verdict-line-few : (v : Verdict) → length (verdictLine v) ≤ 294
+pub verdict-line-few : (v : Verdict) → length (verdictLine v) ≤ mostVerdictLine
 unfolding verdictLine
 verdict-line-few v =
     let r = decimal (rule (v .label)) in
@@ -137,7 +150,7 @@ verdict-line-few v =
             decimal-few (rule (v .label)),
             decimal-few (v .accept-directive),
             decimal-few (v .deny-directive),
-            numbers-few (v .packet),
+            numbers-fit spellings-fit (v .packet),
           ))
     ]
 

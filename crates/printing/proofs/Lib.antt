@@ -1,4 +1,3 @@
-pub mod Putting
-pub mod Decimals
+pub mod Spacing
 pub mod Lengths
 pub mod OneAnswer

@@ -1,5 +1,3 @@
 -- How to read the notation stands at the top of crates/meaning/specs/Lib.antt.
-pub mod Spelling
 pub mod Lines
-pub mod Putting
 pub mod Inner

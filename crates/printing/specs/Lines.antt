@@ -10,7 +10,7 @@ use Rattle.meaning.specs.Form.{Refusal}
 use Rattle.meaning.specs.Labels.{Label, good, conflict, wrong, unasked, unmet-accept, unmet-deny, kind, rule}
 use Rattle.meaning.specs.Verdicts.{Verdict}
 use Rattle.parts.specs.Words.{bytes, newline}
-use Rattle.printing.specs.Spelling.{decimal, quad}
+use Rattle.putting.specs.Spelling.{decimal, quad}
 
 -- fields, one space before each
 abbrev pub spaced : List (List ℕ) → List ℕ

@@ -1,6 +1,6 @@
-// What the program prints, as bytes put into a lent buffer: numbers, dotted quads, and each kind of line. A call puts its bytes
-// from a place on, as far as there is room, and gives the place behind them. Each contract says which bytes these are
-// (specs/Spelling, specs/Lines) and that every other byte of the buffer stays (specs/Putting).
+// Each kind of line that the program prints, as bytes put into a lent buffer. A call puts its line from a place on, as far as there
+// is room, and gives the place behind it. Each contract says which bytes these are (specs/Lines); that every other byte of the
+// buffer stays, and so one outcome is left, is what `putting` says of every text that is put.
 
 use blocks::Block;
 use blocks::Packet;
@@ -8,58 +8,12 @@ use blocks::Span;
 use sets::Label;
 use sets::Refusal;
 ghost use mathlib.Core.List.{[], _∷_};
-ghost use mathlib.Core.Path.{_≡_};
-ghost use Prim.Native.Nat.{_%_};
-ghost use Rattle.parts.specs.Words.{dot};
 ghost use Rattle.blocks.specs.Vocabulary.{spanOf, blockOf, packetOf};
 ghost use Rattle.sets.specs.Vocabulary.{labelOf, refusalOf};
+ghost use Rattle.putting.specs.Putting.{Put};
+ghost use Rattle.putting.specs.Spelling.{decimal, quad};
 ghost use Rattle.printing.specs.Inner.{PutFields};
 ghost use Rattle.printing.specs.Lines.{boundsOf, numbersOf, word, verdictLine, blocksLine, blockLine, refusedLine, unreadableLine, spellings};
-ghost use Rattle.printing.specs.Putting.{Put};
-ghost use Rattle.printing.specs.Spelling.{decimal, quad};
-
-// Puts a byte.
-pub fn put_byte(output: &mut [u8], start: usize, byte: u8) -> usize
-    ensures { λ r. ⌜ Put (now (output .entry)) start (byte ∷ []) (now (output .exit)) r ⌝ }
-{
-    if start < output.len() {
-        output[start] = byte;
-        return start + 1;
-    }
-    start
-}
-
-// Puts bytes.
-pub fn put_bytes(output: &mut [u8], start: usize, bytes: &[u8]) -> usize
-    ensures { λ r. ⌜ Put (now (output .entry)) start (now (bytes .entry)) (now (output .exit)) r ⌝ }
-{
-    let mut at = start;
-    let mut i: usize = 0;
-    while i < bytes.len() {
-        at = put_byte(output, at, bytes[i]);
-        i += 1;
-    }
-    at
-}
-
-// Puts a decimal number.
-pub fn put_decimal(output: &mut [u8], start: usize, number: u64) -> usize
-    ensures { λ r. ⌜ Put (now (output .entry)) start (decimal number) (now (output .exit)) r ⌝ }
-{
-    let mut digits = [0u8; 20];
-    let count = io::decimal(number, &mut digits);
-    put_bytes(output, start, &digits[..count])
-}
-
-// Puts a dotted quad.
-pub fn put_quad(output: &mut [u8], start: usize, address: u32) -> usize
-    ensures { λ r. ⌜ Put (now (output .entry)) start (quad address) (now (output .exit)) r ⌝ }
-{
-    let mut at = put_decimal(output, start, wide(address / 16777216));
-    at = put_octet(output, at, address / 65536);
-    at = put_octet(output, at, address / 256);
-    put_octet(output, at, address)
-}
 
 // Puts the verdict's line.
 pub fn put_verdict(
@@ -73,68 +27,68 @@ pub fn put_verdict(
     ensures { λ r. ⌜ Put (now (output .entry)) start (verdictLine (record { label = labelOf label; accept-directive = «accept_directive»; deny-directive = «deny_directive»; packet = packetOf packet })) (now (output .exit)) r ⌝ }
 {
     if label.kind() == 0 {
-        return put_bytes(output, start, b"verdict conforms\n");
+        return putting::put_bytes(output, start, b"verdict conforms\n");
     }
-    let mut at = put_bytes(output, start, b"verdict");
+    let mut at = putting::put_bytes(output, start, b"verdict");
     at = put_word(output, at, label);
     at = put_number(output, at, label.rule());
     at = put_number(output, at, accept_directive);
     at = put_number(output, at, deny_directive);
     at = put_packet(output, at, packet);
-    put_byte(output, at, b'\n')
+    putting::put_byte(output, at, b'\n')
 }
 
 // Puts the line that tells how many blocks there are.
 pub fn put_total(output: &mut [u8], start: usize, total: u64) -> usize
     ensures { λ r. ⌜ Put (now (output .entry)) start (blocksLine total) (now (output .exit)) r ⌝ }
 {
-    let mut at = put_bytes(output, start, b"blocks");
-    at = put_byte(output, at, b' ');
-    at = put_decimal(output, at, total);
-    put_byte(output, at, b'\n')
+    let mut at = putting::put_bytes(output, start, b"blocks");
+    at = putting::put_byte(output, at, b' ');
+    at = putting::put_decimal(output, at, total);
+    putting::put_byte(output, at, b'\n')
 }
 
 // Puts a block's line.
 pub fn put_block(output: &mut [u8], start: usize, kind: u32, rule: u32, block: Block) -> usize
     ensures { λ r. ⌜ Put (now (output .entry)) start (blockLine kind rule (blockOf block)) (now (output .exit)) r ⌝ }
 {
-    let mut at = put_bytes(output, start, b"block");
+    let mut at = putting::put_bytes(output, start, b"block");
     at = put_number(output, at, kind);
     at = put_number(output, at, rule);
     at = put_addresses(output, at, block.source);
     at = put_addresses(output, at, block.destination);
     at = put_numbers(output, at, block.protocol);
     at = put_numbers(output, at, block.port);
-    put_byte(output, at, b'\n')
+    putting::put_byte(output, at, b'\n')
 }
 
 // Puts the line for a file that is refused.
 pub fn put_refused(output: &mut [u8], start: usize, name: &[u8], refusal: Refusal) -> usize
     ensures { λ r. ⌜ Put (now (output .entry)) start (refusedLine (now (name .entry)) (refusalOf refusal)) (now (output .exit)) r ⌝ }
 {
-    let mut at = put_bytes(output, start, b"refused");
+    let mut at = putting::put_bytes(output, start, b"refused");
     at = put_name(output, at, name);
     at = put_number(output, at, refusal.number);
     at = put_number(output, at, refusal.line);
     at = put_number(output, at, refusal.field);
-    put_byte(output, at, b'\n')
+    putting::put_byte(output, at, b'\n')
 }
 
 // Puts the line for a file that cannot be read.
 pub fn put_unreadable(output: &mut [u8], start: usize, name: &[u8]) -> usize
     ensures { λ r. ⌜ Put (now (output .entry)) start (unreadableLine (now (name .entry))) (now (output .exit)) r ⌝ }
 {
-    let mut at = put_bytes(output, start, b"unreadable");
+    let mut at = putting::put_bytes(output, start, b"unreadable");
     at = put_name(output, at, name);
-    put_byte(output, at, b'\n')
+    putting::put_byte(output, at, b'\n')
 }
 
 // Puts a name as a field.
 fn put_name(output: &mut [u8], start: usize, name: &[u8]) -> usize
     ensures { λ r. ⌜ PutFields (now (output .entry)) start (now (name .entry) ∷ []) (now (output .exit)) r ⌝ }
 {
-    let at = put_byte(output, start, b' ');
-    put_bytes(output, at, name)
+    let at = putting::put_byte(output, start, b' ');
+    putting::put_bytes(output, at, name)
 }
 
 // Puts the verdict's word as a field.
@@ -181,29 +135,14 @@ fn put_numbers(output: &mut [u8], start: usize, span: Span) -> usize
 fn put_address(output: &mut [u8], start: usize, address: u32) -> usize
     ensures { λ r. ⌜ PutFields (now (output .entry)) start (quad address ∷ []) (now (output .exit)) r ⌝ }
 {
-    let at = put_byte(output, start, b' ');
-    put_quad(output, at, address)
+    let at = putting::put_byte(output, start, b' ');
+    putting::put_quad(output, at, address)
 }
 
 // Puts a number as a field.
 fn put_number(output: &mut [u8], start: usize, number: u32) -> usize
     ensures { λ r. ⌜ PutFields (now (output .entry)) start (decimal number ∷ []) (now (output .exit)) r ⌝ }
 {
-    let at = put_byte(output, start, b' ');
-    put_decimal(output, at, wide(number))
-}
-
-// Puts a dot and the last octet of a number.
-fn put_octet(output: &mut [u8], start: usize, number: u32) -> usize
-    ensures { λ r. ⌜ Put (now (output .entry)) start (dot ∷ decimal (number % 256)) (now (output .exit)) r ⌝ }
-{
-    let at = put_byte(output, start, b'.');
-    put_decimal(output, at, wide(number % 256))
-}
-
-// The same number, wider.
-fn wide(number: u32) -> u64
-    ensures { λ r. ⌜ r ≡ number ⌝ }
-{
-    number as u64
+    let at = putting::put_byte(output, start, b' ');
+    putting::put_decimal(output, at, number as u64)
 }

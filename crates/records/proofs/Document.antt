@@ -8,8 +8,10 @@ use Rattle.numbers.specs.Intervals.{span, intervalOf}
 use Rattle.numbers.specs.declared.Bounds.the-variants.{Are, Unread, NoSpan}
 use Rattle.records.specs.Services.{protocolOf, portOf}
 
-pub document-protocols : map (λ (s : String). protocolOf (bytes s)) ("255" ∷ "256" ∷ "tcp" ∷ "udp" ∷ "icmp" ∷ "*" ∷ "6-17" ∷ "6-5" ∷ "300-5" ∷ "tcp-udp" ∷ "TCP" ∷ "06" ∷ "" ∷ [])
-    ≡ (Are (span 255 255) ∷ Unread ∷ Are (span 6 6) ∷ Are (span 17 17) ∷ Are (span 1 1) ∷ Are (span 0 255) ∷ Are (span 6 17) ∷ NoSpan ∷ Unread ∷ Unread ∷ Unread ∷ Unread ∷ Unread ∷ [])
+pub document-protocols : map (λ (s : String). protocolOf (bytes s))
+    ("255" ∷ "256" ∷ "tcp" ∷ "udp" ∷ "icmp" ∷ "*" ∷ "6-17" ∷ "6-5" ∷ "300-5" ∷ "tcp-udp" ∷ "TCP" ∷ "06" ∷ "" ∷ [])
+    ≡ (Are (span 255 255) ∷ Unread ∷ Are (span 6 6) ∷ Are (span 17 17) ∷ Are (span 1 1) ∷ Are (span 0 255)
+    ∷ Are (span 6 17) ∷ NoSpan ∷ Unread ∷ Unread ∷ Unread ∷ Unread ∷ Unread ∷ [])
 unfolding protocolOf intervalOf decimalOf
 document-protocols = refl
 

@@ -1,4 +1,5 @@
 pub mod Lines
+pub mod Fieldwise
 pub mod Forming
 pub mod Document
 pub mod OneAnswer

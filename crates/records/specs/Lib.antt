@@ -1,3 +1,4 @@
 -- How to read the notation stands at the top of crates/meaning/specs/Lib.antt.
 pub mod Services
+pub mod Readers
 pub mod Records

@@ -1,30 +1,24 @@
--- What a line and its fields say, in both texts: whether it is skipped, its first word, an action, a block, and "the same five".
+-- What a line and its fields say, in both texts: whether it is skipped, its first word, an action, a block, and what a rule and a directive have in common.
 use mathlib.Core.Bool.{Bool, true, cond, not}
 use mathlib.Core.List.{List, [], _∷_}
 use Prim.Native.Char.{code}
 use Prim.Native.Nat.{ℕ, _+_}
 use lib.Dec.{eqb}
+use Rattle.meaning.specs.Sizes as sizes
 use Rattle.parts.specs.Fields.{field, fieldCount}
 use Rattle.parts.specs.Parts.{same}
 use Rattle.parts.specs.Words.{bytes}
+use Rattle.blocks.specs.Vocabulary.{blockFrom}
 use Rattle.blocks.specs.declared.Block.{Block}
-use Rattle.blocks.specs.declared.Span.{Span}
 use Rattle.sets.specs.declared.Action.the-variants.{Deny, Accept}
 use Rattle.sets.specs.declared.Action.{Action}
-use Rattle.numbers.specs.declared.Bounds.the-variants as bounds
-use Rattle.numbers.specs.declared.Bounds.{Bounds}
-use Rattle.addresses.specs.Addresses.{addressOf}
-use Rattle.records.specs.Services.{protocolOf, portOf}
+use Rattle.records.specs.Readers.{readers, onSpans, readSpans}
 use Rattle.records.specs.declared.ActionRead.the-variants as action
 use Rattle.records.specs.declared.ActionRead.{ActionRead}
 use Rattle.records.specs.declared.BlockRead.the-variants as block
 use Rattle.records.specs.declared.BlockRead.{BlockRead}
-use Rattle.records.specs.declared.Checked.the-variants as checked
-use Rattle.records.specs.declared.Checked.{Checked}
-use Rattle.records.specs.declared.FiveRead.the-variants as five
-use Rattle.records.specs.declared.FiveRead.{FiveRead}
-use Rattle.records.specs.declared.Spans.the-variants as spans
-use Rattle.records.specs.declared.Spans.{Spans}
+use Rattle.records.specs.declared.RecordRead.the-variants as common
+use Rattle.records.specs.declared.RecordRead.{RecordRead}
 
 -- "Lines that are empty or start with `#` are skipped"
 abbrev pub skipped : List ℕ → Bool
@@ -47,54 +41,26 @@ abbrev pub onAction : {R : Type 0} → ActionRead → R → (Action → R) → R
 onAction (action.Is a) unread go = go a
 onAction action.Unread unread go = unread
 
--- bounds by their numbers of refusal: for what does not read, and for what reads and is no span
-abbrev pub check : ℕ → ℕ → Bounds → Checked
-check unread unfit (bounds.Are s) = checked.Is s
-check unread unfit bounds.Unread = checked.Not unread
-check unread unfit bounds.NoSpan = checked.Not unfit
-
--- two neighbouring fields from the left: the number and field of the first that is refused
-abbrev pub both : ℕ → Checked → Checked → Spans
-both k (checked.Is s) (checked.Is t) = spans.Are s t
-both k (checked.Is s) (checked.Not number) = spans.Not number (k + 1)
-both k (checked.Not number) second = spans.Not number k
-
--- source and destination in fields k and k + 1
-abbrev pub readAddresses : List ℕ → ℕ → Spans
-readAddresses line k = both k (check 6 7 (addressOf (field line k))) (check 6 7 (addressOf (field line (k + 1))))
-
--- protocol and port in fields k and k + 1
-abbrev pub readServices : List ℕ → ℕ → Spans
-readServices line k = both k (check 8 10 (protocolOf (field line k))) (check 9 10 (portOf (field line (k + 1))))
-
--- go on with both spans, or stop at the refusal
-abbrev pub onSpans : {R : Type 0} → Spans → (ℕ → ℕ → R) → (Span → Span → R) → R
-onSpans (spans.Are s t) stop go = go s t
-onSpans (spans.Not number field) stop go = stop number field
-
--- source, destination, protocol and port in the four fields from k on
+-- the block in the fields from k on
 unfoldable pub readBlock : List ℕ → ℕ → BlockRead
-readBlock line k =
-    onSpans (readAddresses line k) block.Not (λ s d.
-    onSpans (readServices line (k + 2)) block.Not (λ p q.
-    block.Is (record { source = s; destination = d; protocol = p; port = q })))
+readBlock line k = onSpans (readSpans readers line k) block.Not (λ ss. block.Is (blockFrom ss))
 
 -- go on with the block, or stop at the refusal
 abbrev pub onBlock : {R : Type 0} → BlockRead → (ℕ → ℕ → R) → (Block → R) → R
 onBlock (block.Is b) stop go = go b
 onBlock (block.Not number field) stop go = stop number field
 
--- "the same five" of a `rule` and an `ask` line, action, source, destination, protocol, port: 4, then 13 where there is no room for one
--- more, then the fields from the left
-unfoldable pub readFive : Bool → List ℕ → FiveRead
-readFive full line =
-    cond (not (eqb (fieldCount line) 6)) (five.Not 4 0)
-    (cond full (five.Not 13 0)
-    (onAction (readAction line) (five.Not 5 2) (λ a.
-    onBlock (readBlock line 3) five.Not (λ b.
-    five.Are a b))))
+-- What a `rule` and an `ask` line have in common ("the same five"), an action and a block: 4, then 13 where there is no room for one more,
+-- then the fields from the left. Word and action stand before the block.
+unfoldable pub readRecord : Bool → List ℕ → RecordRead
+readRecord full line =
+    cond (not (eqb (fieldCount line) (2 + sizes.fieldCount))) (common.Not 4 0)
+    (cond full (common.Not 13 0)
+    (onAction (readAction line) (common.Not 5 2) (λ a.
+    onBlock (readBlock line 3) common.Not (λ b.
+    common.Are a b))))
 
 -- go on with action and block, or stop at the refusal
-abbrev pub onFive : {R : Type 0} → FiveRead → (ℕ → ℕ → R) → (Action → Block → R) → R
-onFive (five.Are a b) stop go = go a b
-onFive (five.Not number field) stop go = stop number field
+abbrev pub onRecord : {R : Type 0} → RecordRead → (ℕ → ℕ → R) → (Action → Block → R) → R
+onRecord (common.Are a b) stop go = go a b
+onRecord (common.Not number field) stop go = stop number field

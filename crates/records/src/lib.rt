@@ -1,19 +1,23 @@
-// What a line and its fields say, in both texts: whether it is skipped, its first word, the action, the block in four fields, and
-// the five fields that a rule and a directive have in common.
+// What a line and its fields say, in both texts: whether it is skipped, its first word, the action, the block, and what a
+// rule and a directive have in common.
 // A field that is refused is told by its number of refusal and its place in the line, the first from the left. The contracts say
 // that each answer is what specs/ defines for the bytes, for every line.
 
+use blocks::BOUNDS;
 use blocks::Block;
+use blocks::FIELDS;
 use blocks::Span;
 use numbers::Bounds;
 use parts::TAB;
 use sets::Action;
 ghost use mathlib.Core.Path.{_≡_};
-ghost use Prim.Native.Nat.{_+_, _≤_};
-ghost use Rattle.parts.specs.Fields.{field};
-ghost use Rattle.addresses.specs.Addresses.{addressOf};
+ghost use lib.ListN.{getD};
 ghost use Rattle.records.specs.Services.{protocolOf, portOf};
-ghost use Rattle.records.specs.Records.{skipped, named, readAction, check, both, readAddresses, readServices, readBlock, readFive};
+ghost use Rattle.records.specs.Readers.{check, portReader, readers};
+ghost use Rattle.records.specs.Records.{skipped, named, readAction, readBlock, readRecord};
+
+// The fields of a `rule` or an `ask` line: its word and its action, and those of a block.
+const RECORD_FIELDS: usize = 2 + FIELDS;
 
 // An action, if one reads.
 pub enum ActionRead {
@@ -27,20 +31,14 @@ enum Checked {
     Not(u32),
 }
 
-// The spans of two fields, or the number and the field of the first refusal.
-enum Spans {
-    Are(Span, Span),
-    Not(u32, u32),
-}
-
 // A block, or the number and the field of the first refusal.
 pub enum BlockRead {
     Is(Block),
     Not(u32, u32),
 }
 
-// The five fields of a rule or a directive, or the number and the field of the first refusal.
-pub enum FiveRead {
+// What a rule and a directive have in common, or the number and the field of the first refusal.
+pub enum RecordRead {
     Are(Action, Block),
     Not(u32, u32),
 }
@@ -99,27 +97,6 @@ fn port(text: &[u8]) -> Bounds
     numbers::interval(text, Block::WIDEST.port.high)
 }
 
-// Field n as an address.
-fn address_field(line: &[u8], n: usize) -> Bounds
-    ensures { λ r. ⌜ r ≡ addressOf (field (now (line .entry)) n) ⌝ }
-{
-    addresses::address(parts::field(line, n))
-}
-
-// Field n as a protocol.
-fn protocol_field(line: &[u8], n: usize) -> Bounds
-    ensures { λ r. ⌜ r ≡ protocolOf (field (now (line .entry)) n) ⌝ }
-{
-    protocol(parts::field(line, n))
-}
-
-// Field n as a port.
-fn port_field(line: &[u8], n: usize) -> Bounds
-    ensures { λ r. ⌜ r ≡ portOf (field (now (line .entry)) n) ⌝ }
-{
-    port(parts::field(line, n))
-}
-
 // Bounds by their numbers of refusal.
 fn check(unread: u32, unfit: u32, bounds: Bounds) -> Checked
     ensures { λ r. ⌜ r ≡ check unread unfit bounds ⌝ }
@@ -131,77 +108,58 @@ fn check(unread: u32, unfit: u32, bounds: Bounds) -> Checked
     }
 }
 
-// Two neighbouring fields, from the left.
-fn both(k: u32, first: Checked, second: Checked) -> Spans
-    requires { ⌜ k ≤ 258 ⌝ }
-    ensures { λ r. ⌜ r ≡ both k first second ⌝ }
+// A field of a block by its reader; the fields of a block are counted from 0, and past the last one a port is read.
+fn read_field(field: usize, text: &[u8]) -> Checked
+    ensures { λ r. ⌜ r ≡ getD readers field portReader (now (text .entry)) ⌝ }
 {
-    match first {
-        Checked::Is(span) => match second {
-            Checked::Is(next) => Spans::Are(span, next),
-            Checked::Not(number) => Spans::Not(number, k + 1),
-        },
-        Checked::Not(number) => Spans::Not(number, k),
+    if field < 2 {
+        return check(6, 7, addresses::address(text));
     }
+    if field == 2 {
+        return check(8, 10, protocol(text));
+    }
+    check(9, 10, port(text))
 }
 
-// Source and destination in fields k and k + 1.
-fn read_addresses(line: &[u8], k: u32) -> Spans
-    requires { ⌜ k ≤ 255 ⌝ }
-    ensures { λ r. ⌜ r ≡ readAddresses (now (line .entry)) k ⌝ }
-{
-    let n = k as usize;
-    let source = check(6, 7, address_field(line, n));
-    let destination = check(6, 7, address_field(line, n + 1));
-    both(k, source, destination)
-}
-
-// Protocol and port in fields k and k + 1.
-fn read_services(line: &[u8], k: u32) -> Spans
-    requires { ⌜ k ≤ 257 ⌝ }
-    ensures { λ r. ⌜ r ≡ readServices (now (line .entry)) k ⌝ }
-{
-    let n = k as usize;
-    let protocol = check(8, 10, protocol_field(line, n));
-    let port = check(9, 10, port_field(line, n + 1));
-    both(k, protocol, port)
-}
-
-// Source, destination, protocol and port in the four fields from k on.
+// The block in the fields from k on, or the first of them that is refused.
 pub fn read_block(line: &[u8], k: u8) -> BlockRead
     ensures { λ r. ⌜ r ≡ readBlock (now (line .entry)) k ⌝ }
 {
-    let first = k as u32;
-    match read_addresses(line, first) {
-        Spans::Are(source, destination) => match read_services(line, first + 2) {
-            Spans::Are(protocol, port) => BlockRead::Is(Block {
-                source,
-                destination,
-                protocol,
-                port,
-            }),
-            Spans::Not(number, field) => BlockRead::Not(number, field),
-        },
-        Spans::Not(number, field) => BlockRead::Not(number, field),
+    let first = k as usize;
+    let mut bounds: [u32; BOUNDS] = [0; BOUNDS];
+    for i in 0..FIELDS {
+        let n = first + i;
+        match read_field(i, parts::field(line, n)) {
+            Checked::Is(span) => {
+                bounds[2 * i] = span.low;
+                bounds[2 * i + 1] = span.high;
+            }
+            Checked::Not(number) => {
+                let field = n as u32;
+                return BlockRead::Not(number, field);
+            }
+        }
     }
+    BlockRead::Is(Block::of_bounds(bounds))
 }
 
-// The five fields of a rule or a directive; full tells that there is no room for one more.
-pub fn read_five(line: &[u8], full: bool) -> FiveRead
-    ensures { λ r. ⌜ r ≡ readFive full (now (line .entry)) ⌝ }
+// What a rule and a directive have in common, in a line whose word and action stand before the block; full tells that there is no room
+// for one more.
+pub fn read_record(line: &[u8], full: bool) -> RecordRead
+    ensures { λ r. ⌜ r ≡ readRecord full (now (line .entry)) ⌝ }
 {
     let fields = parts::count(line, TAB);
-    if fields != 6 {
-        return FiveRead::Not(4, 0);
+    if fields != RECORD_FIELDS {
+        return RecordRead::Not(4, 0);
     }
     if full {
-        return FiveRead::Not(13, 0);
+        return RecordRead::Not(13, 0);
     }
     let ActionRead::Is(action) = read_action(line) else {
-        return FiveRead::Not(5, 2);
+        return RecordRead::Not(5, 2);
     };
     match read_block(line, 3) {
-        BlockRead::Is(block) => FiveRead::Are(action, block),
-        BlockRead::Not(number, field) => FiveRead::Not(number, field),
+        BlockRead::Is(block) => RecordRead::Are(action, block),
+        BlockRead::Not(number, field) => RecordRead::Not(number, field),
     }
 }

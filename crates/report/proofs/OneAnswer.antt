@@ -19,9 +19,9 @@ use Rattle.sets.specs.declared.Rules.{Rules}
 use Rattle.sets.specs.Vocabulary.{ruleSetOf, policySetOf}
 use Rattle.rule_text.specs.RuleTexts.{readRules}
 use Rattle.policy_text.specs.PolicyTexts.{readPolicy}
-use Rattle.faults.specs.Answers.{labelAt}
+use Rattle.findings.specs.Found.{labelAt}
 use Rattle.printing.specs.Lines.{verdictLine, blocksLine}
-use Rattle.report.specs.Runs.{File, unreadable, holding, SetsPrinted, TextsPrinted, Printed, Reported, mostBlocks, blockLines}
+use Rattle.report.specs.Runs.{File, unreadable, holding, SetsPrinted, TextsPrinted, Printed, Reported, mostBlockLines, blockLines}
 use Rattle.report.proofs.report.Reads as report
 
 -- one verdict and one listing, so one text
@@ -30,7 +30,7 @@ one-for-sets rules policy s t p q =
     let v = verdict-is-unique fields (labelAt rules policy) (lowestAsking (policyOf (policySetOf policy))) (p .judged) (q .judged) in
     let bs = fault-listing-is-unique fields (tableOf (ruleSetOf rules)) (policyOf (policySetOf policy)) (p .blocks) (q .blocks) (p .listed) (q .listed) in
     p .printed
-    ∙ (λ i. verdictLine (v i) ++ (blocksLine (length (bs i)) ++ blockLines (take mostBlocks (bs i))))
+    ∙ (λ i. verdictLine (v i) ++ (blocksLine (length (bs i)) ++ blockLines (take mostBlockLines (bs i))))
     ∙ sym (q .printed)
 
 one-for-texts : (rules policy s t : List ℕ) → TextsPrinted rules policy s → TextsPrinted rules policy t → s ≡ t

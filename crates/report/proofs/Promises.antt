@@ -27,28 +27,28 @@ use Rattle.numbers.specs.Decimals.{decimalOf}
 use Rattle.numbers.specs.Intervals.{intervalOf}
 use Rattle.addresses.specs.Addresses.{quadOf, prefixOf, maskedBy, sizedBy, addressOf}
 use Rattle.texts.specs.Texts.{refuseText}
-use Rattle.records.specs.Records.{readAction, readBlock, readFive}
+use Rattle.records.specs.Records.{readAction, readBlock, readRecord}
 use Rattle.records.specs.Services.{protocolOf, portOf}
 use Rattle.rule_text.specs.RuleTexts.{ruleRecord, ruleLine, readRules}
 use Rattle.rule_text.proofs.Document.{document-rules-read}
 use Rattle.policy_text.specs.PolicyTexts.{butFields, askLine, butLine, policyLine, readPolicy}
 use Rattle.policy_text.proofs.Document.{document-policy-read}
 use Rattle.printing.specs.Lines.{verdictLine, blocksLine, blockLine}
-use Rattle.printing.specs.Spelling.{decimal, quad}
-use Rattle.printing.proofs.Lengths.{block-line-few, blocks-line-few, verdict-line-few, refused-line-few, unreadable-line-few}
-use Rattle.report.specs.Runs.{File, unreadable, holding, rulesName, policyName, mostBlocks, blockLines, SetsPrinted, TextsPrinted, Printed, Reported}
+use Rattle.putting.specs.Spelling.{decimal, quad}
+use Rattle.printing.proofs.Lengths.{mostBlockLine, block-line-few, blocks-line-few, verdict-line-few, refused-line-few, unreadable-line-few}
+use Rattle.report.specs.Runs.{File, unreadable, holding, rulesName, policyName, mostBlockLines, mostOutput, blockLines, SetsPrinted, TextsPrinted, Printed, Reported}
 
-block-lines-few : (bs : List (Listed Label)) → length (blockLines bs) ≤ 468 * length bs
+block-lines-few : (bs : List (Listed Label)) → length (blockLines bs) ≤ mostBlockLine * length bs
 block-lines-few [] = omega arith
 block-lines-few (b ∷ bs) =
     let first = blockLine (kind (b .label)) (rule (b .label)) (b .block) in
     omega (arith, length-append first (blockLines bs), block-line-few (kind (b .label)) (rule (b .label)) (b .block), block-lines-few bs)
 
-sets-fit : (rules : Rules) (policy : Policy) (text : List ℕ) → SetsPrinted rules policy text → length text ≤ 262_144
+sets-fit : (rules : Rules) (policy : Policy) (text : List ℕ) → SetsPrinted rules policy text → length text ≤ mostOutput
 sets-fit rules policy text p =
     let v = verdictLine (p .verdict) in
     let total = blocksLine (length (p .blocks)) in
-    let shown = take mostBlocks (p .blocks) in
+    let shown = take mostBlockLines (p .blocks) in
     omega (
       arith,
       ap length (p .printed),
@@ -57,10 +57,10 @@ sets-fit rules policy text p =
       verdict-line-few (p .verdict),
       blocks-line-few (length (p .blocks)),
       block-lines-few shown,
-      length-take mostBlocks (p .blocks),
+      length-take mostBlockLines (p .blocks),
     )
 
-texts-fit : (rules policy text : List ℕ) → TextsPrinted rules policy text → length text ≤ 262_144
+texts-fit : (rules policy text : List ℕ) → TextsPrinted rules policy text → length text ≤ mostOutput
 texts-fit rules policy text p =
     elim (ℕ-discrete (readRules rules .refusal .number) 0) [
       | yes none ↦ elim (ℕ-discrete (readPolicy policy .refusal .number) 0) [
@@ -71,13 +71,13 @@ texts-fit rules policy text p =
     ]
 
 -- No output is longer than 262,144 bytes.
-pub output-fits : (rules policy : File) (text : List ℕ) → Printed rules policy text → length text ≤ 262_144
+pub output-fits : (rules policy : File) (text : List ℕ) → Printed rules policy text → length text ≤ mostOutput
 output-fits unreadable policy text p = omega (arith, ap length p, unreadable-line-few rulesName)
 output-fits (holding rules) unreadable text p = omega (arith, ap length p, unreadable-line-few policyName)
 output-fits (holding rules) (holding policy) text p = texts-fit rules policy text p
 
 -- In a buffer with so much room the whole output stands in front, and its length is told.
-pub report-whole : (rules policy : File) (before after : List ℕ) (end : ℕ) (r : Reported rules policy before after end) → 262_144 ≤ length before
+pub report-whole : (rules policy : File) (before after : List ℕ) (end : ℕ) (r : Reported rules policy before after end) → mostOutput ≤ length before
     → (end ≡ length (r .text)) × (take end after ≡ r .text)
 report-whole rules policy before after end r room =
     let few = output-fits rules policy (r .text) (r .printed) in
@@ -100,11 +100,11 @@ output =
     "verdict wrong 2 0 1 10.20.0.9 10.30.0.6 6 8443\nblocks 4\nblock 4 0 10.20.0.0 10.20.0.8 10.30.0.7 10.30.0.7 6 6 8443 8443\nblock 2 2 10.20.0.9 10.20.0.9 10.30.0.6 10.30.0.6 6 6 8443 8443\nblock 4 0 10.20.0.9 10.20.0.9 10.30.0.7 10.30.0.7 6 6 8443 8443\nblock 4 0 10.20.0.10 10.20.0.255 10.30.0.7 10.30.0.7 6 6 8443 8443\n"
 
 rules-none : readRules (bytes rulesText) .refusal .number ≡ 0
-unfolding readRules refuseText ruleLine ruleRecord readFive readAction readBlock addressOf sizedBy maskedBy prefixOf quadOf decimalOf onesIn protocolOf portOf intervalOf
+unfolding readRules refuseText ruleLine ruleRecord readRecord readAction readBlock addressOf sizedBy maskedBy prefixOf quadOf decimalOf onesIn protocolOf portOf intervalOf
 rules-none = refl
 
 policy-none : readPolicy (bytes policyText) .refusal .number ≡ 0
-unfolding readPolicy refuseText policyLine askLine butLine butFields inside readFive readAction readBlock addressOf sizedBy maskedBy prefixOf quadOf decimalOf onesIn protocolOf portOf intervalOf
+unfolding readPolicy refuseText policyLine askLine butLine butFields inside readRecord readAction readBlock addressOf sizedBy maskedBy prefixOf quadOf decimalOf onesIn protocolOf portOf intervalOf
 policy-none = refl
 
 output-is : bytes output ≡ verdictLine document.verdictLine ++ (blocksLine 4 ++ blockLines document.blockLines)

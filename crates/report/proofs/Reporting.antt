@@ -14,9 +14,10 @@ use Rattle.policy_text.specs.declared.PolicyRead.{PolicyRead}
 use Rattle.policy_text.specs.PolicyTexts.{readPolicy}
 use Rattle.policy_text.proofs.Formed.{policy-read-in-form}
 use Rattle.printing.specs.Lines.{refusedLine, unreadableLine}
-use Rattle.printing.specs.Putting.{Put}
-use Rattle.printing.proofs.Putting.{put-same}
-use Rattle.report.specs.Inner.{InForm, SetsPut}
+use Rattle.putting.specs.Putting.{Put}
+use Rattle.putting.proofs.Putting.{put-same}
+use Rattle.findings.specs.Found.{InForm}
+use Rattle.report.specs.Inner.{SetsPut}
 use Rattle.report.specs.Runs.{Reported, SetsPrinted, File, fileOf, holding, rulesName, policyName}
 
 -- sets that were read are in form

@@ -1,22 +1,19 @@
 -- Words of private contracts; no public contract uses them.
-use mathlib.Core.List.{List, [], _∷_, _++_}
+use mathlib.Core.List.{List, [], _++_}
 use mathlib.Core.Path.{_≡_}
 use Prim.Native.Nat.{ℕ, zero, suc, _+_, _*_}
-use lib.ListN.{length, take, getD}
-use Rattle.meaning.specs.Blocks.{Span}
+use lib.ListN.{length, take, drop, getD}
+use Rattle.meaning.specs.Buffers.{spansOf}
 use Rattle.meaning.specs.Labels.{Label}
 use Rattle.meaning.specs.Listings.{Listed}
+use Rattle.meaning.specs.Sizes.{blockBounds, rowNumbers}
 use Rattle.meaning.specs.Verdicts.{Verdict}
 use Rattle.sets.specs.declared.Policy.{Policy}
 use Rattle.sets.specs.declared.Rules.{Rules}
-use Rattle.faults.specs.Answers.{refused, VerdictFor, ListingFor}
+use Rattle.findings.specs.Found.{VerdictFor, ListingFor}
 use Rattle.printing.specs.Lines.{verdictLine, blocksLine, blockLine}
-use Rattle.printing.specs.Putting.{Put}
-use Rattle.report.specs.Runs.{SetsPrinted, mostBlocks, blockLines}
-
--- nothing is refused
-abbrev pub InForm : Rules → Policy → Type 0
-InForm rules policy = refused rules policy .number ≡ 0
+use Rattle.putting.specs.Putting.{Put}
+use Rattle.report.specs.Runs.{SetsPrinted, mostBlockLines, blockLines}
 
 -- what is printed for sets is put
 pub record SetsPut (rules : Rules) (policy : Policy) (before after : List ℕ) (end : ℕ) : Type 0 where
@@ -34,19 +31,17 @@ pub record VerdictPut (rules : Rules) (policy : Policy) (before after : List ℕ
 pub record ListingPut (rules : Rules) (policy : Policy) (before : List ℕ) (start : ℕ) (after : List ℕ) (end : ℕ) : Type 0 where
   pub blocks : List (Listed Label)
   pub listed : ListingFor rules policy blocks
-  pub put : Put before start (blocksLine (length blocks) ++ blockLines (take mostBlocks blocks)) after end
+  pub put : Put before start (blocksLine (length blocks) ++ blockLines (take mostBlockLines blocks)) after end
 
--- two numbers of a row as a span
-abbrev pub spanAt : List ℕ → ℕ → Span
-spanAt rows low = record { low = getD rows low 0; high = getD rows (low + 1) 0 }
+-- the bounds of a block, from a place on
+abbrev pub boundsAt : List ℕ → ℕ → List ℕ
+boundsAt rows from = take blockBounds (drop from rows)
 
 -- the row from a place on as a block's line
 unfoldable pub rowLine : List ℕ → ℕ → List ℕ
-rowLine rows from =
-    blockLine (getD rows from 0) (getD rows (from + 1) 0)
-    (spanAt rows (from + 2) ∷ spanAt rows (from + 4) ∷ spanAt rows (from + 6) ∷ spanAt rows (from + 8) ∷ [])
+rowLine rows from = blockLine (getD rows from 0) (getD rows (from + 1) 0) (spansOf (boundsAt rows (from + 2)))
 
 -- the lines of the first rows
 abbrev pub rowLines : List ℕ → ℕ → List ℕ
 rowLines rows zero = []
-rowLines rows (suc k) = rowLines rows k ++ rowLine rows (10 * k)
+rowLines rows (suc k) = rowLines rows k ++ rowLine rows (rowNumbers * k)

@@ -13,9 +13,9 @@ use Rattle.sets.specs.declared.Rules.{Rules}
 use Rattle.sets.specs.Vocabulary.{refusalOf}
 use Rattle.rule_text.specs.RuleTexts.{readRules}
 use Rattle.policy_text.specs.PolicyTexts.{readPolicy}
-use Rattle.faults.specs.Answers.{VerdictFor, ListingFor}
+use Rattle.findings.specs.Found.{VerdictFor, ListingFor}
 use Rattle.printing.specs.Lines.{verdictLine, blocksLine, blockLine, refusedLine, unreadableLine}
-use Rattle.printing.specs.Putting.{Put}
+use Rattle.putting.specs.Putting.{Put}
 
 -- a file: its bytes, unless it cannot be opened or read
 pub data File : Type 0 where
@@ -35,8 +35,12 @@ abbrev pub policyName : List ℕ
 policyName = bytes "policy.txt"
 
 -- "At most 512 block lines."
-abbrev pub mostBlocks : ℕ
-mostBlocks = 512
+abbrev pub mostBlockLines : ℕ
+mostBlockLines = 512
+
+-- the room that no output exceeds (output-fits)
+abbrev pub mostOutput : ℕ
+mostOutput = 262_144
 
 -- a line for each block, in order
 abbrev pub blockLines : List (Listed Label) → List ℕ
@@ -49,7 +53,7 @@ pub record SetsPrinted (rules : Rules) (policy : Policy) (text : List ℕ) : Typ
   pub judged : VerdictFor rules policy verdict
   pub blocks : List (Listed Label)
   pub listed : ListingFor rules policy blocks
-  pub printed : text ≡ verdictLine verdict ++ (blocksLine (length blocks) ++ blockLines (take mostBlocks blocks))
+  pub printed : text ≡ verdictLine verdict ++ (blocksLine (length blocks) ++ blockLines (take mostBlockLines blocks))
 
 -- what is printed for two texts: "A refusal prints one line and nothing else"; "if both texts are refused, the one for `rules.txt`"
 pub record TextsPrinted (rules policy text : List ℕ) : Type 0 where

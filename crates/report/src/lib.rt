@@ -2,25 +2,33 @@
 // Its contract says that the output is what document 01's "One whole run" says of the two files (specs/Runs), for every pair of
 // files, and leaves one output only. So of the program just the calls to the system are left unproved.
 
+use blocks::BOUNDS;
 use blocks::Block;
-use blocks::Span;
+use blocks::FIELDS;
+use layout::ROW;
 use sets::Policy;
 use sets::Rules;
 ghost use mathlib.Core.Path.{_≡_};
-ghost use Prim.Native.Nat.{_+_, _*_, _≤_, _<_, min};
+ghost use Prim.Native.Nat.{_+_, _*_, _≤_, min};
 ghost use lib.ListN.{length};
-ghost use Rattle.blocks.specs.Vocabulary.{spanOf};
-ghost use Rattle.printing.specs.Putting.{Put};
-ghost use Rattle.report.specs.Inner.{InForm, SetsPut, VerdictPut, ListingPut, spanAt, rowLine, rowLines};
-ghost use Rattle.report.specs.Runs.{Reported, fileOf, holding, mostBlocks};
+ghost use Rattle.meaning.specs.Sizes.{blockBounds, rowNumbers};
+ghost use Rattle.bounds.specs.SetBlocks.{Limited};
+ghost use Rattle.charts.specs.Charted.{Charted};
+ghost use Rattle.findings.specs.Found.{InForm};
+ghost use Rattle.putting.specs.Putting.{Put};
+ghost use Rattle.report.specs.Inner.{SetsPut, VerdictPut, ListingPut, boundsAt, rowLine, rowLines};
+ghost use Rattle.report.specs.Runs.{Reported, fileOf, holding, mostBlockLines};
 
 // "At most 512 block lines."
-const MOST_BLOCKS: usize = 512;
+const MOST_BLOCK_LINES: usize = 512;
 
-// The numbers of a row: kind and rule, and two bounds for each of four fields.
-const ROW: usize = 10;
+const ROWS: usize = MOST_BLOCK_LINES * ROW;
 
-const ROWS: usize = MOST_BLOCKS * ROW;
+// What is to be read of a file: one byte more than a text may have is enough to refuse it as too long.
+pub const MOST_READ: usize = texts::MOST_BYTES + 1;
+
+// The room that no output exceeds.
+pub const MOST_OUTPUT: usize = 262144;
 
 // Puts the output for two files at the front of the buffer, and gives its length. A file is what was read of it, and whether it
 // could be read.
@@ -59,53 +67,73 @@ fn report_texts(rules: &[u8], policy: &[u8], output: &mut [u8]) -> usize
     printing::put_refused(output, 0, b"rules.txt", refusal)
 }
 
-// The output for two sets.
+// The output for two sets: one chart serves the verdict and the listing.
 fn report_sets(rules: Rules, policy: Policy, output: &mut [u8]) -> usize
     requires { ⌜ InForm rules policy ⌝ }
     ensures { λ r. ⌜ SetsPut rules policy (now (output .entry)) (now (output .exit)) r ⌝ }
 {
-    let at = report_verdict(rules, policy, output);
-    report_listing(rules, policy, at, output)
+    let mut words = [0u64; layout::WORDS];
+    let mut counts = [0usize; FIELDS];
+    let mut places = [0u64; layout::PLACES];
+    charts::chart(rules, policy, &mut words, &mut counts, &mut places);
+    let at = report_verdict(rules, policy, &words, &counts, &places, output);
+    report_listing(rules, policy, &words, &counts, &places, at, output)
 }
 
 // The verdict.
-fn report_verdict(rules: Rules, policy: Policy, output: &mut [u8]) -> usize
-    requires { ⌜ InForm rules policy ⌝ }
+fn report_verdict(
+    rules: Rules,
+    policy: Policy,
+    words: &[u64],
+    counts: &[usize],
+    places: &[u64],
+    output: &mut [u8],
+) -> usize
+    requires { ⌜ Limited rules policy ⌝ }
+    requires { ⌜ Charted rules policy (now words) (now counts) (now places) ⌝ }
     ensures { λ r. ⌜ VerdictPut rules policy (now (output .entry)) (now (output .exit)) r ⌝ }
 {
-    let judged = faults::verdict(rules, policy);
-    let label = judged.label;
-    let packet = judged.packet;
-    let accept = judged.accept_directive;
-    let deny = judged.deny_directive;
+    let found = findings::verdict(rules, policy, words, counts, places);
+    let label = found.label;
+    let packet = found.packet;
+    let accept = found.accept_directive;
+    let deny = found.deny_directive;
     printing::put_verdict(output, 0, label, accept, deny, packet)
 }
 
 // The total and the first blocks of the listing.
-fn report_listing(rules: Rules, policy: Policy, start: usize, output: &mut [u8]) -> usize
-    requires { ⌜ InForm rules policy ⌝ }
+fn report_listing(
+    rules: Rules,
+    policy: Policy,
+    words: &[u64],
+    counts: &[usize],
+    places: &[u64],
+    start: usize,
+    output: &mut [u8],
+) -> usize
+    requires { ⌜ Limited rules policy ⌝ }
+    requires { ⌜ Charted rules policy (now words) (now counts) (now places) ⌝ }
     ensures { λ r. ⌜ ListingPut rules policy (now (output .entry)) start (now (output .exit)) r ⌝ }
 {
     let mut rows = [0u32; ROWS];
-    let listed = faults::listing(rules, policy, &mut rows);
-    let total = listed.total;
+    let total = findings::listing(rules, policy, words, counts, places, &mut rows);
     let at = printing::put_total(output, start, total);
     put_rows(&rows, shown(total), at, output)
 }
 
 // How many blocks of a listing are printed.
 fn shown(total: u64) -> usize
-    ensures { λ r. ⌜ r ≡ min total mostBlocks ⌝ }
+    ensures { λ r. ⌜ r ≡ min total mostBlockLines ⌝ }
 {
-    if total < 512 {
+    if total < MOST_BLOCK_LINES as u64 {
         return total as usize;
     }
-    MOST_BLOCKS
+    MOST_BLOCK_LINES
 }
 
 // The first rows as lines.
 fn put_rows(rows: &[u32], count: usize, start: usize, output: &mut [u8]) -> usize
-    requires { ⌜ 10 * count ≤ length (now rows) ⌝ }
+    requires { ⌜ rowNumbers * count ≤ length (now rows) ⌝ }
     ensures { λ r. ⌜ Put (now (output .entry)) start (rowLines (now (rows .entry)) count) (now (output .exit)) r ⌝ }
 {
     let mut at = start;
@@ -119,31 +147,22 @@ fn put_rows(rows: &[u32], count: usize, start: usize, output: &mut [u8]) -> usiz
 
 // The row from a place on as a line.
 fn put_row(rows: &[u32], from: usize, start: usize, output: &mut [u8]) -> usize
-    requires { ⌜ from + 10 ≤ length (now rows) ⌝ }
+    requires { ⌜ from + rowNumbers ≤ length (now rows) ⌝ }
     ensures { λ r. ⌜ Put (now (output .entry)) start (rowLine (now (rows .entry)) from) (now (output .exit)) r ⌝ }
 {
     let kind = rows[from];
     let rule = rows[from + 1];
-    let source = span_at(rows, from + 2);
-    let destination = span_at(rows, from + 4);
-    let protocol = span_at(rows, from + 6);
-    let port = span_at(rows, from + 8);
-    let block = Block {
-        source,
-        destination,
-        protocol,
-        port,
-    };
+    let block = Block::of_bounds(bounds_at(rows, from + 2));
     printing::put_block(output, start, kind, rule, block)
 }
 
-// Two numbers of a row as a span.
-fn span_at(rows: &[u32], low: usize) -> Span
-    requires { ⌜ low + 1 < length (now rows) ⌝ }
-    ensures { λ r. ⌜ spanOf r ≡ spanAt (now (rows .entry)) low ⌝ }
+// The bounds of a block, from a place on.
+fn bounds_at(rows: &[u32], from: usize) -> [u32; BOUNDS]
+    requires { ⌜ from + blockBounds ≤ length (now rows) ⌝ }
+    ensures { λ r. ⌜ r ≡ boundsAt (now (rows .entry)) from ⌝ }
 {
-    Span {
-        low: rows[low],
-        high: rows[low + 1],
-    }
+    let mut bounds = [0u32; BOUNDS];
+    let end = from + BOUNDS;
+    layout::write_numbers(&rows[from..end], 0, &mut bounds);
+    bounds
 }

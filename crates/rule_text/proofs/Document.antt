@@ -11,7 +11,7 @@ use Rattle.numbers.specs.Decimals.{decimalOf}
 use Rattle.numbers.specs.Intervals.{intervalOf}
 use Rattle.addresses.specs.Addresses.{quadOf, prefixOf, maskedBy, sizedBy, addressOf}
 use Rattle.texts.specs.Texts.{refusal, refuseText}
-use Rattle.records.specs.Records.{readAction, readBlock, readFive}
+use Rattle.records.specs.Records.{readAction, readBlock, readRecord}
 use Rattle.records.specs.Services.{protocolOf, portOf}
 use Rattle.rule_text.specs.RuleTexts.{ruleRecord, ruleLine, readRules}
 
@@ -21,13 +21,15 @@ rulesText =
 
 -- the rules of the whole run are those of which the twelve labels speak
 pub document-rules-read : tableOf (ruleSetOf (readRules (bytes rulesText) .rules)) ≡ document.rules
-unfolding readRules refuseText ruleLine ruleRecord readFive readAction readBlock addressOf sizedBy maskedBy prefixOf quadOf decimalOf onesIn protocolOf portOf intervalOf
+unfolding readRules refuseText ruleLine ruleRecord readRecord readAction readBlock
+    addressOf sizedBy maskedBy prefixOf quadOf decimalOf onesIn protocolOf portOf intervalOf
 document-rules-read = refl
 
 pub document-rules-refused : map (λ (s : String). readRules (bytes s) .refusal)
     ("" ∷ rulesText ∷ "#" ∷ "#\n#" ∷ "#\n\n" ∷ " \n" ∷ "rule\n" ∷ "ask\tdeny\t*\t*\t*\t*\n" ∷ "\nrule\tdrop\t*\t*\t*\t*\n" ∷ "rule\tdeny\t*\t*\t*\t*\t\n"
     ∷ "rule\tdeny\t*\t*\t*\t*\r\n" ∷ "#\nrule\tdeny\t*\t1.0.0.1/8\t*\t*\n" ∷ "rule\tdeny\t*\t*\t6-5\t*\n" ∷ "rule\tdeny\t*\t*\t256\t*\nrule\n" ∷ [])
-    ≡ (refusal 0 0 0 ∷ refusal 0 0 0 ∷ refusal 2 1 0 ∷ refusal 2 2 0 ∷ refusal 0 0 0 ∷ refusal 3 1 1 ∷ refusal 4 1 0 ∷ refusal 3 1 1 ∷ refusal 5 2 2 ∷ refusal 4 1 0
-    ∷ refusal 9 1 6 ∷ refusal 7 2 4 ∷ refusal 10 1 5 ∷ refusal 8 1 5 ∷ [])
-unfolding readRules refuseText ruleLine ruleRecord readFive readAction readBlock addressOf sizedBy maskedBy prefixOf quadOf decimalOf onesIn protocolOf portOf intervalOf
+    ≡ (refusal 0 0 0 ∷ refusal 0 0 0 ∷ refusal 2 1 0 ∷ refusal 2 2 0 ∷ refusal 0 0 0 ∷ refusal 3 1 1 ∷ refusal 4 1 0 ∷ refusal 3 1 1 ∷ refusal 5 2 2
+    ∷ refusal 4 1 0 ∷ refusal 9 1 6 ∷ refusal 7 2 4 ∷ refusal 10 1 5 ∷ refusal 8 1 5 ∷ [])
+unfolding readRules refuseText ruleLine ruleRecord readRecord readAction readBlock
+    addressOf sizedBy maskedBy prefixOf quadOf decimalOf onesIn protocolOf portOf intervalOf
 document-rules-refused = refl

@@ -1,15 +1,13 @@
 -- What a rule text is read as is in form and zero past its count; a refused one is read as the empty set. Assumes nothing.
-use mathlib.Core.Bool.{Bool, true, false, cond}
+use mathlib.Core.Bool.{true}
 use mathlib.Core.List.{List, [], _∷_, _++_, map}
 use mathlib.Core.Path.{_≡_, refl}
 use native.Mathlib.Omega.{arith}
 use Prim.Native.Nat.{ℕ, _≤_}
-use lib.Dec.{leb}
 use lib.ListN.{length, length-append}
 use Rattle.meaning.specs.Fields.{fields}
 use Rattle.meaning.specs.Form.{mostRules, unrefused, refuseRules}
 use Rattle.meaning.specs.Records.{allOf}
-use Rattle.parts.specs.Words.{bytes}
 use Rattle.sets.specs.Empty.{emptyRules, RulesZeroPast}
 use Rattle.sets.specs.Inner.{inForm}
 use Rattle.sets.specs.Listed.{ruleSet}
@@ -17,13 +15,9 @@ use Rattle.sets.specs.Vocabulary.{ruleOf, ruleSetOf}
 use Rattle.sets.specs.declared.Refusal.{Refusal}
 use Rattle.sets.specs.declared.Rule.{Rule}
 use Rattle.sets.proofs.Padding.{no-rules, rules-zero, rules-unrefused, all-more}
-use Rattle.texts.specs.Texts.{Said, goes, stops, refusal}
+use Rattle.texts.specs.Texts.{goes, stops, refusal}
 use Rattle.texts.proofs.Reading.{Keeps, kept, answered}
-use Rattle.records.specs.Records.{skipped, named, readFive, onFive}
-use Rattle.records.specs.declared.FiveRead.the-variants as five
-use Rattle.records.specs.declared.FiveRead.{FiveRead}
-use Rattle.records.proofs.Forming.{FiveInForm, read-five-in-form}
-use Rattle.rule_text.specs.RuleTexts.{ruleRecord, ruleLine, onRuleLine, saidRule, allRules, noRules, readRules}
+use Rattle.rule_text.specs.RuleTexts.{ruleLine, onRuleLine, saidRule, allRules, noRules, readRules}
 use Rattle.rule_text.specs.declared.RuleLine.the-variants.{Skipped, Is, Not}
 use Rattle.rule_text.specs.declared.RuleLine.{RuleLine}
 use Rattle.rule_text.specs.declared.RulesRead.{RulesRead}

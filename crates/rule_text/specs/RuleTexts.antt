@@ -10,14 +10,14 @@ use Rattle.sets.specs.Listed.{ruleSet}
 use Rattle.sets.specs.declared.Refusal.{Refusal}
 use Rattle.sets.specs.declared.Rule.{Rule}
 use Rattle.texts.specs.Texts.{Said, goes, stops, refusal, readText}
-use Rattle.records.specs.Records.{skipped, named, readFive, onFive}
+use Rattle.records.specs.Records.{skipped, named, readRecord, onRecord}
 use Rattle.rule_text.specs.declared.RuleLine.the-variants.{Skipped, Is, Not}
 use Rattle.rule_text.specs.declared.RuleLine.{RuleLine}
 use Rattle.rule_text.specs.declared.RulesRead.{RulesRead}
 
 -- a `rule` line, after so many rules
 unfoldable pub ruleRecord : ℕ → List ℕ → RuleLine
-ruleRecord count line = onFive (readFive (leb mostRules count) line) Not (λ a b. Is (record { action = a; block = b }))
+ruleRecord count line = onRecord (readRecord (leb mostRules count) line) Not (λ a b. Is (record { action = a; block = b }))
 
 -- what a line says, after so many rules
 unfoldable pub ruleLine : ℕ → List ℕ → RuleLine

@@ -3,7 +3,7 @@
 // is in form and zero past its count (proofs/Formed).
 
 use lines::Cursor;
-use records::FiveRead;
+use records::RecordRead;
 use sets::MOST_RULES;
 use sets::Refusal;
 use sets::Rule;
@@ -13,7 +13,6 @@ ghost use mathlib.Core.Path.{_≡_};
 ghost use Prim.Native.Nat.{_≤_, _<_};
 ghost use lib.ListN.{length};
 ghost use Rattle.meaning.specs.Form.{mostRules};
-ghost use Rattle.lines.specs.Reader.{lineFrom};
 ghost use Rattle.texts.specs.Texts.{mostBytes, linesOf, readFrom};
 ghost use Rattle.rule_text.specs.Inner.{ruleAdded};
 ghost use Rattle.rule_text.specs.RuleTexts.{ruleRecord, ruleLine, saidRule, allRules, noRules, readRules};
@@ -59,8 +58,9 @@ fn read_lines(text: &[u8]) -> RulesRead
     let mut cursor = Cursor { at: 0, line: 1 };
     while cursor.at < text.len() {
         let line = cursor.line;
-        let said = rule_at(text, cursor, rules.count);
-        cursor = lines::after(text, cursor.at, cursor.line);
+        let found = lines::line_at(text, cursor.at, cursor.line);
+        let said = rule_line(found, rules.count);
+        cursor = lines::behind(cursor.at, cursor.line, found.len());
         match said {
             RuleLine::Skipped => {}
             RuleLine::Is(rule) => {
@@ -77,13 +77,6 @@ fn read_lines(text: &[u8]) -> RulesRead
     }
     let refusal = Refusal::NONE;
     RulesRead { refusal, rules }
-}
-
-// What the line at a cursor says, after so many rules.
-fn rule_at(text: &[u8], cursor: Cursor, count: usize) -> RuleLine
-    ensures { λ r. ⌜ r ≡ ruleLine count (lineFrom (now (text .entry)) (cursor .at) .bytes) ⌝ }
-{
-    rule_line(lines::line_at(text, cursor.at, cursor.line), count)
 }
 
 // What a line says, after so many rules.
@@ -104,9 +97,9 @@ fn rule_record(line: &[u8], count: usize) -> RuleLine
     ensures { λ r. ⌜ r ≡ ruleRecord count (now (line .entry)) ⌝ }
 {
     let full = MOST_RULES <= count;
-    match records::read_five(line, full) {
-        FiveRead::Are(action, block) => RuleLine::Is(Rule { action, block }),
-        FiveRead::Not(number, field) => RuleLine::Not(number, field),
+    match records::read_record(line, full) {
+        RecordRead::Are(action, block) => RuleLine::Is(Rule { action, block }),
+        RecordRead::Not(number, field) => RuleLine::Not(number, field),
     }
 }
 

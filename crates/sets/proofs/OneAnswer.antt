@@ -9,11 +9,6 @@ use Rattle.sets.proofs.Label.kind.Reads as label-kind
 use Rattle.sets.proofs.Label.rule.Reads as label-rule
 use Rattle.sets.proofs.Policy.empty.Reads as policy-empty
 use Rattle.sets.proofs.Rules.empty.Reads as rules-empty
-use Rattle.sets.proofs.refuse_label.Reads as refuse-label
-use Rattle.sets.proofs.refuse_packet.Reads as refuse-packet
-use Rattle.sets.proofs.refuse_policy.Reads as refuse-policy
-use Rattle.sets.proofs.refuse_rules.Reads as refuse-rules
-use Rattle.sets.proofs.refuse_sets.Reads as refuse-sets
 
 abbrev pub refusalFrom : form.Refusal → Refusal
 refusalFrom r = record { number = r .number; line = r .line; field = r .field }
@@ -32,18 +27,3 @@ label-kind-once κs a r s after after' e f = one-answer _ r s e f
 
 pub label-rule-once : OneAnswer (label-rule.Post)
 label-rule-once κs a r s after after' e f = one-answer _ r s e f
-
-pub refuse-rules-once : OneAnswer (refuse-rules.Post)
-refuse-rules-once κs a r s after after' e f = one-refusal _ r s e f
-
-pub refuse-policy-once : OneAnswer (refuse-policy.Post)
-refuse-policy-once κs a r s after after' e f = one-refusal _ r s e f
-
-pub refuse-packet-once : OneAnswer (refuse-packet.Post)
-refuse-packet-once κs a r s after after' e f = one-refusal _ r s e f
-
-pub refuse-sets-once : OneAnswer (refuse-sets.Post)
-refuse-sets-once κs a r s after after' e f = one-refusal _ r s e f
-
-pub refuse-label-once : OneAnswer (refuse-label.Post)
-refuse-label-once κs a r s after after' e f = one-refusal _ r s e f

@@ -1,4 +1,4 @@
--- Words of private contracts; no public contract uses them.
+-- Words of private contracts in the crates above; no public contract uses them.
 use mathlib.Core.Bool.{Bool}
 use mathlib.Core.List.{List, map}
 use lib.ListN.{take}

@@ -5,12 +5,13 @@ use Prim.Native.Nat.{ℕ, _+_, _*_, _-_, _^_, _≤_, _<_}
 use native.Mathlib.Omega.{arith}
 use borrow.Author.Tests.{le-leb, lt-leb}
 use lib.Pow.{pow-mono}
-use Rattle.cells.specs.Masks.{mask}
-use Rattle.cells.proofs.MaskLaws.{mask-small}
+use Rattle.layout.specs.Masks.{mask}
+use Rattle.layout.proofs.MaskLaws.{mask-small}
 use Rattle.meaning.specs.Blocks.{Span, within}
+use Rattle.meaning.specs.Sizes.{maskDigits}
 use Rattle.strips.specs.Charts.{holding}
-use Rattle.strips.specs.Spans.{spanIn, spansIn}
-use Rattle.strips.proofs.SpanLists.{length-spans, spans-none, spans-sooner}
+use Rattle.bounds.specs.Spans.{spanIn, spansIn}
+use Rattle.bounds.proofs.SpanLists.{length-spans, spans-none, spans-sooner}
 
 -- the span holds x: the mask of it alone is 1
 pub holding-it : (s : Span) (x : ℕ) → s .low ≤ x → x ≤ s .high → holding (s ∷ []) x ≡ 1
@@ -38,12 +39,12 @@ module _ (numbers : List ℕ) (field x end : ℕ) where
   HoldingFrom j m = m ≡ holding (spansIn numbers field j (end - j)) x
 
   -- it is small enough that one digit more fits
-  pub holding-room : (j m digit : ℕ) → end - j < 64 → HoldingFrom j m → digit ≡ holding (spanIn numbers field (j - 1) ∷ []) x
-      → digit + 2 * m < 2 ^ 64
+  pub holding-room : (j m digit : ℕ) → end - j < maskDigits → HoldingFrom j m → digit ≡ holding (spanIn numbers field (j - 1) ∷ []) x
+      → digit + 2 * m < 2 ^ maskDigits
   holding-room j m digit few is-mask is-digit =
       let small = mask-small (λ (s : Span). within s x) (spansIn numbers field j (end - j)) in
       let one = mask-small (λ (s : Span). within s x) (spanIn numbers field (j - 1) ∷ []) in
-      omega (arith, is-mask, is-digit, one, rw (length-spans numbers field j (end - j)) at small, pow-mono {i = end - j} {j = 63} (omega arith))
+      omega (arith, is-mask, is-digit, one, rw (length-spans numbers field j (end - j)) at small, pow-mono {i = end - j} {j = maskDigits - 1} (omega arith))
 
   -- no span yet
   pub holding-start : HoldingFrom end 0

@@ -36,7 +36,7 @@ pub(crate) fn tell_report(
     tell(b"report", place, &bytes, output);
 }
 
-// `V which start length`, with a payload of arguments: the place that a call of `printing` gave, and the array after it.
+// `V which start length`, with a payload of arguments: the place that a call of `puts` gave, and the array after it.
 pub(crate) fn tell_put(which: usize, start: usize, payload: &[u8], output: &mut [u8]) {
     let mut bytes = [0u8; PUT_BYTES];
     let place = put(which, start, payload, &mut bytes);
@@ -53,7 +53,7 @@ fn report(which: usize, room: usize, rules: &[u8], policy: &[u8], bytes: &mut [u
     report::report(rules_read, rules, policy_read, policy, &mut bytes[0..room])
 }
 
-// A call of `printing`, lent the first bytes.
+// A call of `puts`, lent the first bytes.
 fn put(which: usize, start: usize, payload: &[u8], bytes: &mut [u8]) -> usize
     requires { ⌜ 200 ≤ length (now bytes) ⌝ }
 {

@@ -1,4 +1,4 @@
-// The calls of `printing` by number, in the order of its source, with arguments from a payload.
+// The calls of `putting` and then of `printing` by number, in the order of their sources, with arguments from a payload.
 
 use crate::arguments;
 use sets::Label;
@@ -10,10 +10,10 @@ const BEFORE_NAME: usize = 12;
 // The call with this number; the start if there is none.
 pub(crate) fn put(which: usize, output: &mut [u8], start: usize, payload: &[u8]) -> usize {
     match which {
-        0 => printing::put_byte(output, start, arguments::byte(payload, 0)),
-        1 => printing::put_bytes(output, start, payload),
-        2 => printing::put_decimal(output, start, arguments::long_number(payload)),
-        3 => printing::put_quad(output, start, arguments::number(payload, 0)),
+        0 => putting::put_byte(output, start, arguments::byte(payload, 0)),
+        1 => putting::put_bytes(output, start, payload),
+        2 => putting::put_decimal(output, start, arguments::long_number(payload)),
+        3 => putting::put_quad(output, start, arguments::number(payload, 0)),
         4 => put_verdict(output, start, payload),
         5 => printing::put_total(output, start, arguments::long_number(payload)),
         6 => put_block(output, start, payload),

@@ -3,14 +3,10 @@
 // for the bytes that were read. What is left here are the calls to the system, of which nothing can be proved.
 
 use libc::STDOUT_FILENO;
+use report::MOST_OUTPUT;
+use report::MOST_READ;
 ghost use Prim.Native.Nat.{_≤_};
 ghost use lib.ListN.{length};
-
-// One byte more than a text may have: of a longer file no more is read, and it is refused as too long.
-const MOST_READ: usize = 32769;
-
-// No output is longer (output-fits in crates/report).
-const MOST_OUTPUT: usize = 262144;
 
 // How much was read of a file, and whether it could be read.
 struct FileRead {

@@ -4,6 +4,7 @@ use native.Mathlib.Omega.{arith}
 use borrow.Author.Needs.{needs}
 use lib.Count.{trailing-le}
 use Rattle.meaning.specs.Labels.{kind, rule}
+use Rattle.meaning.specs.Sizes.{maskDigits}
 use Rattle.cells.proofs.Labels.{label-accepted, label-accepted-wrongly, label-conflict, label-denied, label-denied-wrongly, label-nothing, label-unasked, label-unmet-accept, label-unmet-deny}
 use Rattle.cells.specs.Cells.{labelNumber, leftLabel}
 use Rattle.cells.proofs.label_number.Statement.{statement}
@@ -28,10 +29,10 @@ shared-slice-read-accepting : tie.Need-shared-slice-read-accepting
 shared-slice-read-accepting c = search needs
 
 add-rule : tie.Need-add-rule
-add-rule c = omega (arith, trailing-le 64 (c .before .before .before .before .before .before .before .args .rules))
+add-rule c = omega (arith, trailing-le maskDigits (c .before .before .before .before .before .before .before .args .rules))
 
 mul-rule : tie.Need-mul-rule
-mul-rule c = omega (arith, trailing-le 64 (c .before .before .before .before .before .before .before .args .rules))
+mul-rule c = omega (arith, trailing-le maskDigits (c .before .before .before .before .before .before .before .args .rules))
 
 returns : tie.Need-returns
 unfolding leftLabel kind rule
@@ -46,7 +47,7 @@ unfolding leftLabel kind rule
 returns-3 c = ap labelNumber (label-accepted _ _ _ _ _ (sym (c .before .before .before .before .before .before .before .asked .ensures) ∙ c .before .before .before .if1 .taken) (sym (c .before .before .before .before .before .asked2 .ensures) ∙ c .before .before .if2 .left) (c .before .if3 .left) (c .if4 .taken))
 
 add-result : tie.Need-add-result
-add-result c = omega (arith, trailing-le 64 (c .before .before .before .before .before .before .before .before .before .before .before .args .rules))
+add-result c = omega (arith, trailing-le maskDigits (c .before .before .before .before .before .before .before .before .before .before .before .args .rules))
 
 returns-4 : tie.Need-returns-4
 unfolding leftLabel kind rule
@@ -61,7 +62,7 @@ unfolding leftLabel kind rule
 returns-6 c = ap labelNumber (label-nothing _ _ _ _ _ (sym (c .before .before .before .before .before .before .asked .ensures) ∙ c .before .before .if1 .left) (sym (c .before .before .before .before .asked2 .ensures) ∙ c .if6 .left) (c .before .if5 .taken))
 
 add-result-2 : tie.Need-add-result-2
-add-result-2 c = omega (arith, trailing-le 64 (c .before .before .before .before .before .before .before .before .before .before .before .args .rules))
+add-result-2 c = omega (arith, trailing-le maskDigits (c .before .before .before .before .before .before .before .before .before .before .before .args .rules))
 
 returns-7 : tie.Need-returns-7
 unfolding leftLabel kind rule
@@ -72,7 +73,7 @@ unfolding leftLabel kind rule
 returns-8 c = ap labelNumber (label-denied _ _ _ _ _ (sym (c .before .before .before .before .before .before .before .asked .ensures) ∙ c .before .before .before .if1 .left) (sym (c .before .before .before .before .before .asked2 .ensures) ∙ c .before .if7 .taken) (c .before .before .if5 .left) (c .if8 .left))
 
 add-result-3 : tie.Need-add-result-3
-add-result-3 c = omega (arith, trailing-le 64 (c .before .before .before .before .before .before .before .before .before .before .args .rules))
+add-result-3 c = omega (arith, trailing-le maskDigits (c .before .before .before .before .before .before .before .before .before .before .args .rules))
 
 returns-9 : tie.Need-returns-9
 unfolding leftLabel kind rule

@@ -3,6 +3,7 @@ use native.Mathlib.Omega.{arith}
 use borrow.Author.Needs.{needs}
 use lib.ListN.{take}
 use lib.Seq.{length-take-le}
+use Rattle.meaning.specs.Sizes.{frontWords}
 use Rattle.charts.proofs.FieldWalk.{all-behind}
 use Rattle.charts.proofs.chart.Statement.{statement}
 use Rattle.charts.proofs.chart.Tie as tie
@@ -51,10 +52,10 @@ returns c =
       counted = blocks-put .ensures .0;
       numbers = _;
       numbered = blocks-put .ensures .1;
-      front = take 68 (front-put .last .1 .1 .0);
-      front-long = length-take-le 68 (front-put .last .1 .1 .0) (omega (arith, long, same-long));
+      front = take frontWords (front-put .last .1 .1 .0);
+      front-long = length-take-le frontWords (front-put .last .1 .1 .0) (omega (arith, long, same-long));
       masks = fields-put .last .1 .1 .1 .1 .0;
-      words-are = all-behind (front-put .last .1 .1 .0) (fields-put .last .1 .1 .1 .1 .0) 68;
+      words-are = all-behind (front-put .last .1 .1 .0) (fields-put .last .1 .1 .1 .1 .0) frontWords;
       front-words = front-put .ensures;
       each-field = fields-put .ensures;
     }

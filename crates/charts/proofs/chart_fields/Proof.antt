@@ -3,7 +3,8 @@ use mathlib.Core.Path.{_∙_}
 use Prim.Native.Nat.{_-_}
 use borrow.Author.Needs.{needs}
 use Rattle.meaning.specs.Fields.{fields}
-use Rattle.charts.proofs.FieldWalk.{ChartedUpTo, field-some, fields-end, fields-more, fields-start, masks-part, places-part}
+use Rattle.meaning.specs.Sizes.{fieldCount}
+use Rattle.charts.proofs.FieldWalk.{ChartedUpTo, fields-end, fields-more, fields-start, masks-part, places-part}
 use Rattle.charts.proofs.chart_fields.Statement.{statement}
 use Rattle.charts.proofs.chart_fields.Tie as tie
 
@@ -12,12 +13,13 @@ Inv-loop rules directives exceptions numbers masks₀ counts₀ places₀ field�
     ChartedUpTo numbers rules directives exceptions fields field masks counts places
 
 abbrev μ-loop : tie.MeasureT-loop
-μ-loop rules directives exceptions numbers masks₀ counts₀ places₀ field₀ masks counts places field = 4 - field
+μ-loop rules directives exceptions numbers masks₀ counts₀ places₀ field₀ masks counts places field = fieldCount - field
 
 loop-holds : tie.Need-loop-holds Inv-loop μ-loop
-loop-holds c =
-    let long = c .before .before .before .before .pre .1 in
-    fields-start _ _ _ _ _ _ _ _ (long .0) (long .1) (long .2)
+loop-holds c = search needs
+
+size-of-requires : tie.Need-size-of-requires Inv-loop μ-loop
+size-of-requires c κs = search needs
 
 mul-start : tie.Need-mul-start Inv-loop μ-loop
 mul-start c = search needs
@@ -34,12 +36,6 @@ add-last c = search needs
 mul-chart-field : tie.Need-mul-chart-field Inv-loop μ-loop
 mul-chart-field c = search needs
 
-array-read-chart-field : tie.Need-array-read-chart-field Inv-loop μ-loop
-array-read-chart-field c = search needs
-
-mul-chart-field-2 : tie.Need-mul-chart-field-2 Inv-loop μ-loop
-mul-chart-field-2 c = search needs
-
 sub-chart-field : tie.Need-sub-chart-field Inv-loop μ-loop
 sub-chart-field c = search needs
 
@@ -49,8 +45,8 @@ part-chart-field-start c = search needs
 part-chart-field-end : tie.Need-part-chart-field-end Inv-loop μ-loop
 part-chart-field-end c = search needs
 
-mul-chart-field-3 : tie.Need-mul-chart-field-3 Inv-loop μ-loop
-mul-chart-field-3 c = search needs
+mul-chart-field-2 : tie.Need-mul-chart-field-2 Inv-loop μ-loop
+mul-chart-field-2 c = search needs
 
 sub-chart-field-2 : tie.Need-sub-chart-field-2 Inv-loop μ-loop
 sub-chart-field-2 c = search needs
@@ -62,11 +58,7 @@ part-chart-field-end-2 : tie.Need-part-chart-field-end-2 Inv-loop μ-loop
 part-chart-field-end-2 c = search needs
 
 chart-field-requires : tie.Need-chart-field-requires Inv-loop μ-loop
-chart-field-requires c κs =
-    let pre = c .before .before .before .before .before .before .before .before .pre .0 in
-    let below = c .before .before .loop-test .taken in
-    let w = c .before .before .before .loop .inv in
-    ((below, field-some _ below, pre .0, pre .1, pre .2), (pre .3, masks-part _ _ _ _ _ below w, places-part _ _ _ _ _ below w))
+chart-field-requires c κs = search needs
 
 mul-counts : tie.Need-mul-counts Inv-loop μ-loop
 mul-counts c = search needs
@@ -82,11 +74,13 @@ loop-less c = search needs
 
 loop-again : tie.Need-loop-again Inv-loop μ-loop
 loop-again c =
-    let below = c .before .before .before .before .before .before .before .loop-test .taken in
-    let w = c .before .before .before .before .before .before .before .before .loop .inv in
+    let charted = c .before .before .before .before in
+    let sized = charted .before .before .before in
+    let below = sized .before .loop-test .taken in
+    let w = sized .before .before .loop .inv in
     let masks-back = c .before .before .before .masks .given in
     let places-back = c .before .places .given in
-    fields-more _ _ _ _ _ _ _ _ _ _ below (c .before .before .before .before .chart-field .ensures) (masks-back .0 ∙ masks-part _ _ _ _ _ below w)
+    fields-more _ _ _ _ _ _ _ _ _ _ _ below (sized .size-of .ensures) (charted .chart-field .ensures) (masks-back .0 ∙ masks-part _ _ _ _ _ below w)
     (places-back .0 ∙ places-part _ _ _ _ _ below w) (masks-back .1) (places-back .1) w
 
 same-length : tie.Need-same-length Inv-loop μ-loop
@@ -108,17 +102,16 @@ chart-fields-spec =
     Inv-loop
     μ-loop
     loop-holds
+    size-of-requires
     mul-start
     add-end
     mul-first
     add-last
     mul-chart-field
-    array-read-chart-field
-    mul-chart-field-2
     sub-chart-field
     part-chart-field-start
     part-chart-field-end
-    mul-chart-field-3
+    mul-chart-field-2
     sub-chart-field-2
     part-chart-field-start-2
     part-chart-field-end-2

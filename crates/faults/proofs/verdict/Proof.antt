@@ -2,7 +2,6 @@
 use mathlib.Core.Path.{_∙_, ap, refl, sym}
 use borrow.Author.Needs.{needs}
 use Rattle.meaning.specs.Form.{Refusal}
-use Rattle.faults.proofs.Forming.{in-form-no-refusal}
 use Rattle.faults.proofs.verdict.Statement.{statement}
 use Rattle.faults.proofs.verdict.Tie as tie
 
@@ -13,13 +12,7 @@ judge-sets-requires : tie.Need-judge-sets-requires
 judge-sets-requires c κs = ap (λ (r : Refusal). r .number) (sym (c .before .before .refuse-sets .ensures)) ∙ c .if1 .taken
 
 returns : tie.Need-returns
-returns c =
-    let formed = ap (λ (r : Refusal). r .number) (sym (c .before .before .before .refuse-sets .ensures)) ∙ c .before .if1 .taken in
-    record {
-      refusal = c .judge-sets .ensures .unrefused ∙ sym (in-form-no-refusal (c .before .before .before .before .args .rules) (c .before .before .before .before .args .policy) formed);
-      judged = λ e. c .judge-sets .ensures .judged;
-      zeros = λ n. absurd (n formed);
-    }
+returns c = c .judge-sets .ensures
 
 returns-2 : tie.Need-returns-2
 returns-2 c =

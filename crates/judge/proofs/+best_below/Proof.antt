@@ -6,6 +6,7 @@ use borrow.Author.Needs.{needs}
 use borrow.Fn.Kinds.{In}
 use borrow.Fn.PlainCycle.{Measures, and, falls, is}
 use lib.ListN.{drop}
+use Rattle.meaning.specs.Sizes.{fieldCount}
 use Rattle.cells.proofs.Telling.{told-true}
 use Rattle.cells.proofs.label_number.Reads as label-number-reads
 use Rattle.cells.proofs.left_at.Reads as left-at-reads
@@ -23,7 +24,7 @@ use Rattle.judge.proofs.+best_below.Lts-best_below as best-below-lts
 use Rattle.judge.proofs.+best_below.Tie.{close}
 
 abbrev μ-best-below : Measures 2 best-below-kinds.ps ℕ
-μ-best-below κs a = 4 - a .0
+μ-best-below κs a = fieldCount - a .0
 
 abbrev best-below-at : ℕ → In 2 best-below-kinds.ps
 best-below-at t =
@@ -85,9 +86,9 @@ best-below-ranked-requires-3 t c κs = search needs
 
 best-below-returns-3 : (t : ℕ) → best-below-lts.Need-returns-3 (claims t) (best-below-at t) best-below.Post best-below-Inv-loop best-below-μ-loop
 best-below-returns-3 t c =
-    let four : c .before .before .before .before .before .before .before .before .before .before .args .field ≡ 4 = omega (arith, c .before .before .before .before .before .before .before .before .before .before .pre .1 .0, c .before .before .before .before .if3 .taken) in
+    let last : c .before .before .before .before .before .before .before .before .before .before .args .field ≡ fieldCount = omega (arith, c .before .before .before .before .before .before .before .before .before .before .pre .1 .0, c .before .before .before .before .if3 .taken) in
     found-last _ _ _ _ _ _ _ (omega (arith, c .before .before .before .before .before .before .before .before .before .before .pre .1 .0, c .before .before .before .before .if3 .taken)) refl (c .before .before .rank-of .ensures _ (c .before .before .before .label-number .ensures))
-    (ap (λ (k : ℕ). drop k (c .ranked3 .result .strips)) four ∙ c .ranked3 .ensures .1) (c .ranked3 .ensures .0) (c .before .if4 .taken)
+    (ap (λ (k : ℕ). drop k (c .ranked3 .result .strips)) last ∙ c .ranked3 .ensures .1) (c .ranked3 .ensures .0) (c .before .if4 .taken)
 
 best-below-ranked-requires-4 : (t : ℕ) → best-below-lts.Need-ranked-requires-4 (claims t) (best-below-at t) best-below.Post best-below-Inv-loop best-below-μ-loop
 best-below-ranked-requires-4 t c κs = search needs

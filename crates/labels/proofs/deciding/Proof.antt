@@ -5,7 +5,7 @@ use Prim.Native.Nat.{_-_}
 use borrow.Author.Needs.{needs}
 use lib.ListN.{length}
 use Rattle.meaning.specs.Blocks.{holds}
-use Rattle.meaning.specs.Form.{tableOf}
+use Rattle.meaning.specs.Form.{tableOf, mostRules}
 use Rattle.meaning.specs.Rules as meaning
 use Rattle.blocks.specs.Vocabulary.{packetOf}
 use Rattle.sets.specs.Empty.{zeroRule}
@@ -49,7 +49,7 @@ returns : tie.Need-returns Inv-loop μ-loop
 returns c =
     let rules = c .before .before .before .before .before .before .args .t1 in
     let packet = c .before .before .before .before .before .before .args .packet in
-    let full : length (rules .records) ≡ 64 = search (needs, length-of-map) in
+    let full : length (rules .records) ≡ mostRules = search (needs, length-of-map) in
     sym
     (c .before .before .before .before .loop .inv
     ∙ first-here ruleOf (rules .records) (rules .count) (λ (r : meaning.Rule). holds (r .block) (packetOf packet)) (c .before .before .before .before .loop .passed) zeroRule (omega arith) (omega arith) (sym (c .before .holds .ensures) ∙ c .if1 .taken))
@@ -61,7 +61,7 @@ loop-again : tie.Need-loop-again Inv-loop μ-loop
 loop-again c =
     let rules = c .before .before .before .before .before .before .args .t1 in
     let packet = c .before .before .before .before .before .before .args .packet in
-    let full : length (rules .records) ≡ 64 = search (needs, length-of-map) in
+    let full : length (rules .records) ≡ mostRules = search (needs, length-of-map) in
     c .before .before .before .before .loop .inv
     ∙ first-later ruleOf (rules .records) (rules .count) (λ (r : meaning.Rule). holds (r .block) (packetOf packet)) (c .before .before .before .before .loop .passed) zeroRule (omega arith) (omega arith) (sym (c .before .holds .ensures) ∙ c .if1 .left)
 
@@ -69,7 +69,7 @@ returns-2 : tie.Need-returns-2 Inv-loop μ-loop
 returns-2 c =
     let rules = c .before .before .before .args .t1 in
     let packet = c .before .before .before .args .packet in
-    let full : length (rules .records) ≡ 64 = search (needs, length-of-map) in
+    let full : length (rules .records) ≡ mostRules = search (needs, length-of-map) in
     sym
     (c .before .loop .inv
     ∙ first-over ruleOf (rules .records) (rules .count) (λ (r : meaning.Rule). holds (r .block) (packetOf packet)) (c .before .loop .passed) (omega arith))

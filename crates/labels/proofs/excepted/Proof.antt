@@ -6,7 +6,7 @@ use native.Mathlib.Omega.{arith}
 use Prim.Native.Nat.{ℕ, _-_, _+_, _<_}
 use borrow.Author.Needs.{needs}
 use lib.ListN.{length, drop, getD, set}
-use Rattle.meaning.specs.Form.{Exception}
+use Rattle.meaning.specs.Form.{Exception, mostExceptions}
 use Rattle.blocks.specs.Vocabulary.{packetOf}
 use Rattle.sets.specs.Empty.{zeroException}
 use Rattle.sets.specs.Inner.{exceptionsOf}
@@ -55,7 +55,7 @@ loop-again c =
     let p = packetOf (c .before .before .before .before .before .args .packet) in
     let e = exceptionOf (getD (policy .exceptions) (c .before .before .before .loop .i) zeroException) in
     let left = drop (c .before .before .before .loop .i + 1) (exceptionsOf policy) in
-    let full : length (policy .exceptions) ≡ 64 = search (needs, length-of-map) in
+    let full : length (policy .exceptions) ≡ mostExceptions = search (needs, length-of-map) in
     let this = next exceptionOf (policy .exceptions) (policy .«exception_count») (c .before .before .before .loop .i) zeroException (omega arith) (omega arith) in
     subst⁻¹ (λ (k : ℕ). Marked p (exceptionsOf policy) left (set (c .before .before .before .loop .marks) k true)) (c .excepted-directive .ensures)
     (marked-more p (exceptionsOf policy) e left (c .before .before .before .loop .marks)
@@ -65,7 +65,7 @@ returns : tie.Need-returns Inv-loop μ-loop
 returns c =
     let policy = c .before .before .before .args .t1 in
     let p = packetOf (c .before .before .before .args .packet) in
-    let full : length (policy .exceptions) ≡ 64 = search (needs, length-of-map) in
+    let full : length (policy .exceptions) ≡ mostExceptions = search (needs, length-of-map) in
     let none-left = over exceptionOf (policy .exceptions) (policy .«exception_count») (c .before .loop .i) (omega arith) in
     record {
       at = marked-end p (exceptionsOf policy) (c .before .loop .marks) (subst (λ (es : List Exception). Marked p (exceptionsOf policy) es (c .before .loop .marks)) none-left (c .before .loop .inv));

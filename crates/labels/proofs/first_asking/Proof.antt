@@ -4,7 +4,7 @@ use native.Mathlib.Omega.{arith}
 use Prim.Native.Nat.{_-_, _+_}
 use borrow.Author.Needs.{needs}
 use lib.ListN.{length}
-use Rattle.meaning.specs.Form.{policyOf}
+use Rattle.meaning.specs.Form.{policyOf, mostDirectives}
 use Rattle.meaning.specs.Policies.{lowestAsking}
 use Rattle.blocks.specs.Vocabulary.{packetOf}
 use Rattle.sets.specs.Vocabulary.{actionOf, policySetOf}
@@ -49,7 +49,7 @@ returns c =
     let policy = c .before .before .before .before .before .before .args .t1 in
     let a = actionOf (c .before .before .before .before .before .before .args .action) in
     let p = packetOf (c .before .before .before .before .before .before .args .packet) in
-    let full : length (policy .directives) ≡ 32 = search (needs, length-of-map) in
+    let full : length (policy .directives) ≡ mostDirectives = search (needs, length-of-map) in
     sym
     (c .before .before .before .before .loop .inv
     ∙ asking-here policy a p (c .before .before .before .before .loop .i) (omega arith) (omega arith) _ (c .before .before .before .before .before .before .pre .at (c .before .before .before .before .loop .i + 1) (omega arith) (omega arith)) (sym (c .before .asks .ensures) ∙ c .if1 .taken))
@@ -62,14 +62,14 @@ loop-again c =
     let policy = c .before .before .before .before .before .before .args .t1 in
     let a = actionOf (c .before .before .before .before .before .before .args .action) in
     let p = packetOf (c .before .before .before .before .before .before .args .packet) in
-    let full : length (policy .directives) ≡ 32 = search (needs, length-of-map) in
+    let full : length (policy .directives) ≡ mostDirectives = search (needs, length-of-map) in
     c .before .before .before .before .loop .inv
     ∙ asking-later policy a p (c .before .before .before .before .loop .i) (omega arith) (omega arith) _ (c .before .before .before .before .before .before .pre .at (c .before .before .before .before .loop .i + 1) (omega arith) (omega arith)) (sym (c .before .asks .ensures) ∙ c .if1 .left)
 
 returns-2 : tie.Need-returns-2 Inv-loop μ-loop
 returns-2 c =
     let policy = c .before .before .before .args .t1 in
-    let full : length (policy .directives) ≡ 32 = search (needs, length-of-map) in
+    let full : length (policy .directives) ≡ mostDirectives = search (needs, length-of-map) in
     sym (c .before .loop .inv ∙ asking-over policy (actionOf (c .before .before .before .args .action)) (packetOf (c .before .before .before .args .packet)) (c .before .loop .i) (omega arith))
 
 pub first-asking-spec : {M : Type 1} → statement M

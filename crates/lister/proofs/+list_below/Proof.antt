@@ -8,6 +8,7 @@ use borrow.Fn.Kinds.{In}
 use borrow.Fn.PlainCycle.{Measures, and, falls, is}
 use lib.ListN.{length}
 use Rattle.meaning.specs.Blocks.{Span}
+use Rattle.meaning.specs.Sizes.{fieldCount}
 use Rattle.cells.proofs.LabelNumbers.{good-is-zero, zero-is-good}
 use Rattle.cells.proofs.Telling.{told-true}
 use Rattle.cells.proofs.label_number.Reads as label-number-reads
@@ -30,7 +31,7 @@ use Rattle.lister.proofs.+list_below.Lts-list_below as list-below-lts
 use Rattle.lister.proofs.+list_below.Tie.{close}
 
 abbrev μ-list-below : Measures 4 list-below-kinds.ps ℕ
-μ-list-below κs a = 4 - a .0
+μ-list-below κs a = fieldCount - a .0
 
 abbrev list-below-at : ℕ → In 4 list-below-kinds.ps
 list-below-at t =

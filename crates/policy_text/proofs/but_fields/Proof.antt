@@ -19,11 +19,15 @@ enum-known-number c = search needs
 
 returns : tie.Need-returns
 unfolding butFields
-returns c = simp (sym (c .before .before .before .before .before .read-block .ensures) ∙ c .before .before .before .block .given .1, sym (c .before .inside .ensures) ∙ c .if1 .taken)
+returns c =
+    let read = c .before .before .before in
+    simp (sym (read .before .before .read-block .ensures) ∙ read .block .given .1, sym (c .before .inside .ensures) ∙ c .if1 .taken)
 
 returns-2 : tie.Need-returns-2
 unfolding butFields
-returns-2 c = simp (sym (c .before .before .before .before .before .read-block .ensures) ∙ c .before .before .before .block .given .1, sym (c .before .inside .ensures) ∙ c .if1 .left)
+returns-2 c =
+    let read = c .before .before .before in
+    simp (sym (read .before .before .read-block .ensures) ∙ read .block .given .1, sym (c .before .inside .ensures) ∙ c .if1 .left)
 
 returns-3 : tie.Need-returns-3
 unfolding butFields

@@ -23,7 +23,10 @@ ask-line-requires c κs = search needs
 
 returns-2 : tie.Need-returns-2
 unfolding policyLine
-returns-2 c = simp (sym (c .before .before .before .before .before .is-skipped .ensures) ∙ c .before .before .before .before .if1 .left, sym (c .before .before .is-named .ensures) ∙ c .before .if2 .taken) (c .ask-line .ensures)
+returns-2 c =
+    let second = c .before in
+    let first = second .before .before .before in
+    simp (sym (first .before .is-skipped .ensures) ∙ first .if1 .left, sym (second .before .is-named .ensures) ∙ second .if2 .taken) (c .ask-line .ensures)
 
 slice-aggregate-is-named-2 : tie.Need-slice-aggregate-is-named-2
 slice-aggregate-is-named-2 c = search needs
@@ -37,11 +40,26 @@ but-line-requires c κs = search needs
 returns-3 : tie.Need-returns-3
 unfolding policyLine
 returns-3 c =
-    simp (sym (c .before .before .before .before .before .before .before .before .is-skipped .ensures) ∙ c .before .before .before .before .before .before .before .if1 .left, sym (c .before .before .before .before .before .is-named .ensures) ∙ c .before .before .before .before .if2 .left, sym (c .before .before .is-named2 .ensures) ∙ c .before .if3 .taken) (c .but-line .ensures)
+    let third = c .before in
+    let second = third .before .before .before in
+    let first = second .before .before .before in
+    simp (
+      sym (first .before .is-skipped .ensures) ∙ first .if1 .left,
+      sym (second .before .is-named .ensures) ∙ second .if2 .left,
+      sym (third .before .is-named2 .ensures) ∙ third .if3 .taken,
+    )
+    (c .but-line .ensures)
 
 returns-4 : tie.Need-returns-4
 unfolding policyLine
-returns-4 c = simp (sym (c .before .before .before .before .before .before .before .is-skipped .ensures) ∙ c .before .before .before .before .before .before .if1 .left, sym (c .before .before .before .before .is-named .ensures) ∙ c .before .before .before .if2 .left, sym (c .before .is-named2 .ensures) ∙ c .if3 .left)
+returns-4 c =
+    let second = c .before .before .before in
+    let first = second .before .before .before in
+    simp (
+      sym (first .before .is-skipped .ensures) ∙ first .if1 .left,
+      sym (second .before .is-named .ensures) ∙ second .if2 .left,
+      sym (c .before .is-named2 .ensures) ∙ c .if3 .left,
+    )
 
 pub policy-line-spec : {M : Type 1} → statement M
 policy-line-spec =

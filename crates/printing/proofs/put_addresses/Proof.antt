@@ -1,6 +1,6 @@
 -- Low, then high.
 use borrow.Author.Needs.{needs}
-use Rattle.printing.proofs.Putting.{put-fields}
+use Rattle.printing.proofs.Spacing.{put-fields}
 use Rattle.printing.proofs.put_addresses.Statement.{statement}
 use Rattle.printing.proofs.put_addresses.Tie as tie
 

@@ -1,6 +1,6 @@
 -- It puts a space, then the name.
 use borrow.Author.Needs.{needs}
-use Rattle.printing.proofs.Putting.{put-field}
+use Rattle.printing.proofs.Spacing.{put-field}
 use Rattle.printing.proofs.put_name.Statement.{statement}
 use Rattle.printing.proofs.put_name.Tie as tie
 

@@ -1,6 +1,6 @@
 -- Number by number.
 use borrow.Author.Needs.{needs}
-use Rattle.printing.proofs.Putting.{put-fields}
+use Rattle.printing.proofs.Spacing.{put-fields}
 use Rattle.printing.proofs.put_packet.Statement.{statement}
 use Rattle.printing.proofs.put_packet.Tie as tie
 

@@ -1,6 +1,7 @@
 -- Field by field.
 use borrow.Author.Needs.{needs}
-use Rattle.printing.proofs.Putting.{put-fields, put-then}
+use Rattle.putting.proofs.Putting.{put-then}
+use Rattle.printing.proofs.Spacing.{put-fields}
 use Rattle.printing.proofs.put_refused.Statement.{statement}
 use Rattle.printing.proofs.put_refused.Tie as tie
 use Rattle.printing.specs.Lines.{refusedLine}

@@ -1,6 +1,7 @@
 -- The word, a space, the total, the line's end.
 use borrow.Author.Needs.{needs}
-use Rattle.printing.proofs.Putting.{put-field, put-then}
+use Rattle.putting.proofs.Putting.{put-then}
+use Rattle.printing.proofs.Spacing.{put-field}
 use Rattle.printing.proofs.put_total.Statement.{statement}
 use Rattle.printing.proofs.put_total.Tie as tie
 use Rattle.printing.specs.Lines.{blocksLine}

@@ -1,6 +1,6 @@
 -- The word, the name, the line's end.
 use borrow.Author.Needs.{needs}
-use Rattle.printing.proofs.Putting.{put-then}
+use Rattle.putting.proofs.Putting.{put-then}
 use Rattle.printing.proofs.put_unreadable.Statement.{statement}
 use Rattle.printing.proofs.put_unreadable.Tie as tie
 use Rattle.printing.specs.Lines.{unreadableLine}

@@ -4,11 +4,12 @@ use mathlib.Core.Path.{_∙_, ap, sym}
 use Prim.Native.Nat.{ℕ}
 use borrow.Author.Needs.{needs}
 use borrow.Author.Tests.{eq-eqb, ne-eqb}
-use Rattle.printing.proofs.Putting.{fields-same, put-fields, put-same, put-then}
+use Rattle.putting.specs.Spelling.{decimal}
+use Rattle.putting.proofs.Putting.{put-same, put-then}
+use Rattle.printing.proofs.Spacing.{fields-same, put-fields}
 use Rattle.printing.proofs.put_verdict.Statement.{statement}
 use Rattle.printing.proofs.put_verdict.Tie as tie
 use Rattle.printing.specs.Lines.{verdictLine}
-use Rattle.printing.specs.Spelling.{decimal}
 
 kind-requires : tie.Need-kind-requires
 kind-requires c κs = search needs

@@ -2,7 +2,7 @@
 use mathlib.Core.List.{[], _∷_}
 use mathlib.Core.Path.{ap, sym}
 use borrow.Author.Needs.{needs}
-use Rattle.printing.proofs.Putting.{fields-same}
+use Rattle.printing.proofs.Spacing.{fields-same}
 use Rattle.printing.proofs.put_word.Statement.{statement}
 use Rattle.printing.proofs.put_word.Tie as tie
 use Rattle.printing.specs.Lines.{word}

@@ -17,8 +17,10 @@ same-requires c κs = search needs
 
 returns : tie.Need-returns
 returns c =
-    c .same .ensures
-    ∙ ap (λ (x : List ℕ). same x (c .before .before .before .before .args .word .now)) (shown-bytes (c .before .before .before .before .args .line) (c .before .field .result) (fieldPiece (c .before .before .before .before .args .line .now) 1) (c .before .field .ensures))
+    let shown = c .before in
+    let a = shown .before .before .before .args in
+    let is = shown-bytes (a .line) (shown .field .result) (fieldPiece (a .line .now) 1) (shown .field .ensures) in
+    c .same .ensures ∙ ap (λ (x : List ℕ). same x (a .word .now)) is
 
 pub is-named-spec : {M : Type 1} → statement M
 is-named-spec = tie.close (tie.spec field-requires same-requires returns)

@@ -23,7 +23,9 @@ same-requires-2 c κs = search needs
 
 returns-2 : tie.Need-returns-2
 unfolding protocolOf
-returns-2 c = simp (sym (c .before .before .before .before .same .ensures) ∙ c .before .before .before .if1 .left, sym (c .before .same2 .ensures) ∙ c .if2 .taken)
+returns-2 c =
+    let first = c .before .before .before in
+    simp (sym (first .before .same .ensures) ∙ first .if1 .left, sym (c .before .same2 .ensures) ∙ c .if2 .taken)
 
 slice-aggregate-same-3 : tie.Need-slice-aggregate-same-3
 slice-aggregate-same-3 c = search needs
@@ -33,14 +35,30 @@ same-requires-3 c κs = search needs
 
 returns-3 : tie.Need-returns-3
 unfolding protocolOf
-returns-3 c = simp (sym (c .before .before .before .before .before .before .before .same .ensures) ∙ c .before .before .before .before .before .before .if1 .left, sym (c .before .before .before .before .same2 .ensures) ∙ c .before .before .before .if2 .left, sym (c .before .same3 .ensures) ∙ c .if3 .taken)
+returns-3 c =
+    let second = c .before .before .before in
+    let first = second .before .before .before in
+    simp (
+      sym (first .before .same .ensures) ∙ first .if1 .left,
+      sym (second .before .same2 .ensures) ∙ second .if2 .left,
+      sym (c .before .same3 .ensures) ∙ c .if3 .taken,
+    )
 
 interval-requires : tie.Need-interval-requires
 interval-requires c κs = search needs
 
 returns-4 : tie.Need-returns-4
 unfolding protocolOf
-returns-4 c = simp (sym (c .before .before .before .before .before .before .before .before .same .ensures) ∙ c .before .before .before .before .before .before .before .if1 .left, sym (c .before .before .before .before .before .same2 .ensures) ∙ c .before .before .before .before .if2 .left, sym (c .before .before .same3 .ensures) ∙ c .before .if3 .left) (c .interval .ensures)
+returns-4 c =
+    let third = c .before in
+    let second = third .before .before .before in
+    let first = second .before .before .before in
+    simp (
+      sym (first .before .same .ensures) ∙ first .if1 .left,
+      sym (second .before .same2 .ensures) ∙ second .if2 .left,
+      sym (third .before .same3 .ensures) ∙ third .if3 .left,
+    )
+    (c .interval .ensures)
 
 pub protocol-spec : {M : Type 1} → statement M
 protocol-spec =

@@ -23,7 +23,9 @@ same-requires c κs = search needs
 returns : tie.Need-returns
 unfolding readAction
 returns c =
-    let is = shown-bytes (c .before .before .before .before .before .args .line) (c .before .before .before .field .result) (fieldPiece (c .before .before .before .before .before .args .line .now) 2) (c .before .before .before .field .ensures) in
+    let shown = c .before .before .before in
+    let line = shown .before .before .args .line in
+    let is = shown-bytes line (shown .field .result) (fieldPiece (line .now) 2) (shown .field .ensures) in
     simp (ap (λ (x : List ℕ). same x (bytes "accept")) (sym is) ∙ sym (c .before .same .ensures) ∙ c .if1 .taken)
 
 slice-aggregate-same-2 : tie.Need-slice-aggregate-same-2
@@ -35,18 +37,24 @@ same-requires-2 c κs = search needs
 returns-2 : tie.Need-returns-2
 unfolding readAction
 returns-2 c =
-    let is = shown-bytes (c .before .before .before .before .before .before .before .before .args .line) (c .before .before .before .before .before .before .field .result) (fieldPiece (c .before .before .before .before .before .before .before .before .args .line .now) 2) (c .before .before .before .before .before .before .field .ensures) in
+    let first = c .before .before .before in
+    let shown = first .before .before .before in
+    let line = shown .before .before .args .line in
+    let is = shown-bytes line (shown .field .result) (fieldPiece (line .now) 2) (shown .field .ensures) in
     simp (
-      ap (λ (x : List ℕ). same x (bytes "accept")) (sym is) ∙ sym (c .before .before .before .before .same .ensures) ∙ c .before .before .before .if1 .left,
+      ap (λ (x : List ℕ). same x (bytes "accept")) (sym is) ∙ sym (first .before .same .ensures) ∙ first .if1 .left,
       ap (λ (x : List ℕ). same x (bytes "deny")) (sym is) ∙ sym (c .before .same2 .ensures) ∙ c .if2 .taken,
     )
 
 returns-3 : tie.Need-returns-3
 unfolding readAction
 returns-3 c =
-    let is = shown-bytes (c .before .before .before .before .before .before .before .before .args .line) (c .before .before .before .before .before .before .field .result) (fieldPiece (c .before .before .before .before .before .before .before .before .args .line .now) 2) (c .before .before .before .before .before .before .field .ensures) in
+    let first = c .before .before .before in
+    let shown = first .before .before .before in
+    let line = shown .before .before .args .line in
+    let is = shown-bytes line (shown .field .result) (fieldPiece (line .now) 2) (shown .field .ensures) in
     simp (
-      ap (λ (x : List ℕ). same x (bytes "accept")) (sym is) ∙ sym (c .before .before .before .before .same .ensures) ∙ c .before .before .before .if1 .left,
+      ap (λ (x : List ℕ). same x (bytes "accept")) (sym is) ∙ sym (first .before .same .ensures) ∙ first .if1 .left,
       ap (λ (x : List ℕ). same x (bytes "deny")) (sym is) ∙ sym (c .before .same2 .ensures) ∙ c .if2 .left,
     )
 

@@ -1,8 +1,7 @@
--- Number by number.
-use mathlib.Core.Path.{refl}
-use Prim.Native.Nat.{_-_}
+-- Kind, rule and bounds, as a line. Assumes nothing.
+use mathlib.Core.Path.{_∙_, refl}
 use borrow.Author.Needs.{needs}
-use Rattle.printing.proofs.Putting.{put-same}
+use Rattle.putting.proofs.Putting.{put-same}
 use Rattle.report.proofs.RowLines.{row-line}
 use Rattle.report.proofs.put_row.Statement.{statement}
 use Rattle.report.proofs.put_row.Tie as tie
@@ -22,29 +21,14 @@ mul-rule c = search needs
 shared-slice-read-rule : tie.Need-shared-slice-read-rule
 shared-slice-read-rule c = search needs
 
-add-span-at : tie.Need-add-span-at
-add-span-at c = search needs
+add-bounds-at : tie.Need-add-bounds-at
+add-bounds-at c = search needs
 
-span-at-requires : tie.Need-span-at-requires
-span-at-requires c κs = search needs
+bounds-at-requires : tie.Need-bounds-at-requires
+bounds-at-requires c κs = search needs
 
-add-span-at-2 : tie.Need-add-span-at-2
-add-span-at-2 c = search needs
-
-span-at-requires-2 : tie.Need-span-at-requires-2
-span-at-requires-2 c κs = search needs
-
-add-span-at-3 : tie.Need-add-span-at-3
-add-span-at-3 c = search needs
-
-span-at-requires-3 : tie.Need-span-at-requires-3
-span-at-requires-3 c κs = search needs
-
-add-span-at-4 : tie.Need-add-span-at-4
-add-span-at-4 c = search needs
-
-span-at-requires-4 : tie.Need-span-at-requires-4
-span-at-requires-4 c κs = search needs
+of-bounds-requires : tie.Need-of-bounds-requires
+of-bounds-requires c κs = search needs
 
 put-block-requires : tie.Need-put-block-requires
 put-block-requires c κs = search needs
@@ -53,7 +37,9 @@ same-length : tie.Need-same-length
 same-length c = search needs
 
 returns : tie.Need-returns
-returns c = put-same (row-line _ _ _ _ _ _ _ _ refl refl (c .before .before .before .before .before .before .before .span-at .ensures) (c .before .before .before .before .before .before .span-at2 .ensures) (c .before .before .before .before .before .span-at3 .ensures) (c .before .before .before .before .span-at4 .ensures)) (c .before .before .put-block .ensures)
+returns c =
+    let block = c .before .before .before .before in
+    put-same (row-line _ _ _ _ _ refl refl (block .of-bounds .ensures ∙ block .before .bounds-at .ensures)) (c .before .before .put-block .ensures)
 
 pub put-row-spec : {M : Type 1} → statement M
 put-row-spec =
@@ -64,14 +50,9 @@ put-row-spec =
     add-rule
     mul-rule
     shared-slice-read-rule
-    add-span-at
-    span-at-requires
-    add-span-at-2
-    span-at-requires-2
-    add-span-at-3
-    span-at-requires-3
-    add-span-at-4
-    span-at-requires-4
+    add-bounds-at
+    bounds-at-requires
+    of-bounds-requires
     put-block-requires
     same-length
     returns)

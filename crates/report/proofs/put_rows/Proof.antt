@@ -4,8 +4,8 @@ use Prim.Native.Nat.{_-_, _≤_}
 use native.Mathlib.Omega.{arith}
 use borrow.Author.Needs.{needs}
 use lib.ListN.{length}
-use Rattle.printing.proofs.Putting.{put-length, put-nothing, put-same, put-then}
-use Rattle.printing.specs.Putting.{Put}
+use Rattle.putting.proofs.Putting.{put-length, put-nothing, put-same, put-then}
+use Rattle.putting.specs.Putting.{Put}
 use Rattle.report.proofs.RowLines.{lines-more}
 use Rattle.report.proofs.put_rows.Statement.{statement}
 use Rattle.report.proofs.put_rows.Tie as tie

@@ -1,18 +1,18 @@
--- The total, then the rows.
+-- The total, then the rows. Assumes nothing.
 use mathlib.Core.Path.{_∙_, ap}
 use Prim.Native.Nat.{min, ℕ}
 use borrow.Author.Needs.{needs}
-use Rattle.faults.specs.Answers.{labelAt}
-use Rattle.meaning.proofs.ListingForm.{listing-in-form}
 use Rattle.meaning.specs.Fields.{fields}
 use Rattle.meaning.specs.Labels.{good}
-use Rattle.printing.proofs.Putting.{put-same, put-then}
+use Rattle.meaning.proofs.ListingForm.{listing-in-form}
+use Rattle.findings.specs.Found.{labelAt}
+use Rattle.putting.proofs.Putting.{put-same, put-then}
 use Rattle.printing.specs.Lines.{blocksLine}
+use Rattle.report.specs.Inner.{rowLines}
+use Rattle.report.specs.Runs.{mostBlockLines}
 use Rattle.report.proofs.RowLines.{listing-lines}
 use Rattle.report.proofs.report_listing.Statement.{statement}
 use Rattle.report.proofs.report_listing.Tie as tie
-use Rattle.report.specs.Inner.{rowLines}
-use Rattle.report.specs.Runs.{mostBlocks}
 
 slice-aggregate-listing : tie.Need-slice-aggregate-listing
 slice-aggregate-listing c = search needs
@@ -37,16 +37,17 @@ same-length c = search needs
 
 returns : tie.Need-returns
 returns c =
-    let t = c .before .before .before .before .before .before .before .before .before .before .before .listing .ensures .told (c .before .before .before .before .before .before .before .before .before .before .before .before .before .before .pre) in
-    let formed = listing-in-form good fields (labelAt (c .before .before .before .before .before .before .before .before .before .before .before .before .before .before .args .rules) (c .before .before .before .before .before .before .before .before .before .before .before .before .before .before .args .policy)) (t .blocks) (t .listed) in
-    let count = c .before .before .before .before .shown .ensures ∙ ap (λ (n : ℕ). min n mostBlocks) (t .counted) in
+    let put = c .before .before .before .before .before .before .before .before in
+    let listed = put .before .before .before in
+    let args = listed .before .before .before .before .before .before .args in
+    let told = listed .listing .ensures in
+    let formed = listing-in-form good fields (labelAt (args .rules) (args .policy)) (told .blocks) (told .listed) in
+    let count = c .before .before .before .before .shown .ensures ∙ ap (λ (n : ℕ). min n mostBlockLines) (told .counted) in
+    let lines = (λ i. rowLines (told .written i) (count i)) ∙ listing-lines (told .blocks) _ (search needs) formed in
     record {
-      blocks = t .blocks;
-      listed = t .listed;
-      put =
-          put-then
-          (put-same (ap blocksLine (t .counted)) (c .before .before .before .before .before .before .before .before .put-total .ensures))
-          (put-same ((λ i. rowLines (t .written i) (count i)) ∙ listing-lines (t .blocks) _ (search needs) formed) (c .before .before .put-rows .ensures));
+      blocks = told .blocks;
+      listed = told .listed;
+      put = put-then (put-same (ap blocksLine (told .counted)) (put .put-total .ensures)) (put-same lines (c .before .before .put-rows .ensures));
     }
 
 pub report-listing-spec : {M : Type 1} → statement M

@@ -4,7 +4,7 @@ use native.Mathlib.Omega.{arith}
 use Prim.Native.Nat.{_+_, _-_}
 use borrow.Author.Needs.{needs}
 use lib.ListN.{length}
-use Rattle.lines.proofs.Stepping.{nearer}
+use Rattle.lines.proofs.Stepping.{found-nearer}
 use Rattle.rule_text.proofs.RuleReading.{Read, read-none, read-all, has-room, read-skip, read-more, read-stop}
 use Rattle.rule_text.proofs.read_lines.Statement.{statement}
 use Rattle.rule_text.proofs.read_lines.Tie as tie
@@ -21,32 +21,78 @@ empty-requires c κs = search needs
 loop-holds : tie.Need-loop-holds Inv-loop μ-loop
 loop-holds c = read-none (c .before .before .args .text .now) (c .empty .result) (c .empty .ensures)
 
-rule-at-requires : tie.Need-rule-at-requires Inv-loop μ-loop
-rule-at-requires c κs = search needs
+line-at-requires : tie.Need-line-at-requires Inv-loop μ-loop
+line-at-requires c κs = search needs
 
-after-requires : tie.Need-after-requires Inv-loop μ-loop
-after-requires c κs = search needs
+rule-line-requires : tie.Need-rule-line-requires Inv-loop μ-loop
+rule-line-requires c κs = search needs
+
+behind-requires : tie.Need-behind-requires Inv-loop μ-loop
+behind-requires c κs = search needs
 
 enum-told : tie.Need-enum-told Inv-loop μ-loop
 enum-told c = search needs
 
 loop-less : tie.Need-loop-less Inv-loop μ-loop
-loop-less c = nearer (c .before .before .before .before .before .before .before .before .before .args .text .now) (c .before .before .before .before .before .before .loop .cursor) (c .before .before .after .result) (omega arith) (c .before .before .after .ensures)
+loop-less c =
+    let stepped = c .before .before in
+    let said = stepped .before in
+    let found = said .before in
+    let line = found .line-at in
+    let here = found .before .before .before in
+    let at = here .loop in
+    let text = here .before .before .before .args .text in
+    found-nearer text (line .result) (at .cursor) (line .ensures) (omega arith) (omega arith) (stepped .behind .result) (stepped .behind .ensures)
 
 loop-again : tie.Need-loop-again Inv-loop μ-loop
-loop-again c = read-skip (c .before .before .before .before .before .before .before .before .before .args .text .now) (c .before .before .before .before .before .before .loop .cursor) (c .before .before .before .before .before .before .loop .rules) (c .before .before .before .before .before .before .loop .inv) (omega arith) (omega arith) (c .before .before .before .rule-at .result) (c .before .before .before .rule-at .ensures) (c .before .before .after .result) (c .before .before .after .ensures) (c .enum-told .given .1)
+loop-again c =
+    let stepped = c .before .before in
+    let said = stepped .before in
+    let found = said .before in
+    let line = found .line-at in
+    let here = found .before .before .before in
+    let at = here .loop in
+    let text = here .before .before .before .args .text in
+    read-skip text (at .cursor) (at .rules) (at .inv) (omega arith) (omega arith) (line .result) (line .ensures)
+    (said .rule-line .result) (said .rule-line .ensures) (stepped .behind .result) (stepped .behind .ensures) (c .enum-told .given .1)
 
 enum-known-said : tie.Need-enum-known-said Inv-loop μ-loop
 enum-known-said c = search needs
 
 add-rule-requires : tie.Need-add-rule-requires Inv-loop μ-loop
-add-rule-requires c κs = has-room (c .before .before .before .before .before .before .before .before .before .before .args .text .now) (c .before .before .before .before .before .before .before .loop .cursor) (c .before .before .before .before .before .before .before .loop .rules) (c .before .before .before .before .before .before .before .loop .inv) (omega arith) (omega arith) (c .before .before .before .before .rule-at .result) (c .before .before .before .before .rule-at .ensures) _ (c .before .said .given .1)
+add-rule-requires c κs =
+    let said = c .before .before .before .before in
+    let found = said .before in
+    let line = found .line-at in
+    let here = found .before .before .before in
+    let at = here .loop in
+    let text = here .before .before .before .args .text in
+    has-room text (at .cursor) (at .rules) (at .inv) (omega arith) (omega arith) (line .result) (line .ensures)
+    (said .rule-line .result) (said .rule-line .ensures) _ (c .before .said .given .1)
 
 loop-less-2 : tie.Need-loop-less-2 Inv-loop μ-loop
-loop-less-2 c = nearer (c .before .before .before .before .before .before .before .before .before .before .before .args .text .now) (c .before .before .before .before .before .before .before .before .loop .cursor) (c .before .before .before .before .after .result) (omega arith) (c .before .before .before .before .after .ensures)
+loop-less-2 c =
+    let stepped = c .before .before .before .before in
+    let said = stepped .before in
+    let found = said .before in
+    let line = found .line-at in
+    let here = found .before .before .before in
+    let at = here .loop in
+    let text = here .before .before .before .args .text in
+    found-nearer text (line .result) (at .cursor) (line .ensures) (omega arith) (omega arith) (stepped .behind .result) (stepped .behind .ensures)
 
 loop-again-2 : tie.Need-loop-again-2 Inv-loop μ-loop
-loop-again-2 c = read-more (c .before .before .before .before .before .before .before .before .before .before .before .args .text .now) (c .before .before .before .before .before .before .before .before .loop .cursor) (c .before .before .before .before .before .before .before .before .loop .rules) (c .before .before .before .before .before .before .before .before .loop .inv) (omega arith) (omega arith) (c .before .before .before .before .before .rule-at .result) (c .before .before .before .before .before .rule-at .ensures) (c .before .before .before .before .after .result) (c .add-rule .result) _ (c .before .before .before .before .after .ensures) (c .add-rule .ensures) (c .before .before .said .given .1)
+loop-again-2 c =
+    let stepped = c .before .before .before .before in
+    let said = stepped .before in
+    let found = said .before in
+    let line = found .line-at in
+    let here = found .before .before .before in
+    let at = here .loop in
+    let text = here .before .before .before .args .text in
+    read-more text (at .cursor) (at .rules) (at .inv) (omega arith) (omega arith) (line .result) (line .ensures)
+    (said .rule-line .result) (said .rule-line .ensures) (stepped .behind .result) (c .add-rule .result) _
+    (stepped .behind .ensures) (c .add-rule .ensures) (c .before .before .said .given .1)
 
 enum-known-said-2 : tie.Need-enum-known-said-2 Inv-loop μ-loop
 enum-known-said-2 c = search needs
@@ -56,11 +102,22 @@ refuse-requires c κs = search needs
 
 returns : tie.Need-returns Inv-loop μ-loop
 returns c =
+    let said = c .before .before .before .before .before in
+    let found = said .before in
+    let line = found .line-at in
+    let here = found .before .before .before in
+    let at = here .loop in
+    let text = here .before .before .before .args .text in
+    let is = c .before .before .said2 .given .1 in
     c .refuse .ensures
-    ∙ sym (read-stop (c .before .before .before .before .before .before .before .before .before .before .before .args .text .now) (c .before .before .before .before .before .before .before .before .loop .cursor) (c .before .before .before .before .before .before .before .before .loop .rules) (c .before .before .before .before .before .before .before .before .loop .inv) (omega arith) (omega arith) (c .before .before .before .before .before .rule-at .result) (c .before .before .before .before .before .rule-at .ensures) _ _ (c .before .before .said2 .given .1))
+    ∙ sym (read-stop text (at .cursor) (at .rules) (at .inv) (omega arith) (omega arith) (line .result) (line .ensures)
+    (said .rule-line .result) (said .rule-line .ensures) _ _ is)
 
 returns-2 : tie.Need-returns-2 Inv-loop μ-loop
-returns-2 c = read-all (c .before .before .before .before .before .args .text .now) (c .before .before .loop .cursor) (c .before .before .loop .rules) (c .before .before .loop .inv) (omega arith)
+returns-2 c =
+    let here = c .before .before in
+    let at = here .loop in
+    read-all (here .before .before .before .args .text .now) (at .cursor) (at .rules) (at .inv) (omega arith)
 
 pub read-lines-spec : {M : Type 1} → statement M
 read-lines-spec =
@@ -70,8 +127,9 @@ read-lines-spec =
     μ-loop
     empty-requires
     loop-holds
-    rule-at-requires
-    after-requires
+    line-at-requires
+    rule-line-requires
+    behind-requires
     enum-told
     loop-less
     loop-again

@@ -14,12 +14,17 @@ refuse-text-requires : tie.Need-refuse-text-requires
 refuse-text-requires c κs = search needs
 
 read-lines-requires : tie.Need-read-lines-requires
-read-lines-requires c κs = unrefused-fits (c .before .before .before .before .args .text .now) (ap (λ (x : Refusal). x .number) (sym (c .before .before .refuse-text .ensures)) ∙ c .if1 .taken)
+read-lines-requires c κs =
+    let looked = c .before .before in
+    let good = ap (λ (x : Refusal). x .number) (sym (looked .refuse-text .ensures)) ∙ c .if1 .taken in
+    unrefused-fits (looked .before .before .args .text .now) good
 
 returns : tie.Need-returns
 unfolding readRules
 returns c =
-    let good : refuseText (c .before .before .before .before .before .args .text .now) .number ≡ 0 = ap (λ (x : Refusal). x .number) (sym (c .before .before .before .refuse-text .ensures)) ∙ c .before .if1 .taken in
+    let looked = c .before .before .before in
+    let text = looked .before .before .args .text .now in
+    let good : refuseText text .number ≡ 0 = ap (λ (x : Refusal). x .number) (sym (looked .refuse-text .ensures)) ∙ c .before .if1 .taken in
     simp (eq-eqb _ 0 good) (c .read-lines .ensures)
 
 refuse-requires : tie.Need-refuse-requires
@@ -28,8 +33,11 @@ refuse-requires c κs = search needs
 returns-2 : tie.Need-returns-2
 unfolding readRules
 returns-2 c =
-    simp (ne-eqb (refuseText (c .before .before .before .before .before .args .text .now) .number) 0 (λ e. c .before .if1 .left (ap (λ (x : Refusal). x .number) (c .before .before .before .refuse-text .ensures) ∙ e)))
-    (c .refuse .ensures ∙ ap (noRules []) (c .before .before .before .refuse-text .ensures))
+    let looked = c .before .before .before in
+    let text = looked .before .before .args .text .now in
+    let same = ap (λ (x : Refusal). x .number) (looked .refuse-text .ensures) in
+    simp (ne-eqb (refuseText text .number) 0 (λ e. c .before .if1 .left (same ∙ e)))
+    (c .refuse .ensures ∙ ap (noRules []) (looked .refuse-text .ensures))
 
 pub read-rules-spec : {M : Type 1} → statement M
 read-rules-spec =

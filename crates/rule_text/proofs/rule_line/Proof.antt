@@ -23,11 +23,16 @@ rule-record-requires c κs = search needs
 
 returns-2 : tie.Need-returns-2
 unfolding ruleLine
-returns-2 c = simp (sym (c .before .before .before .before .before .is-skipped .ensures) ∙ c .before .before .before .before .if1 .left, sym (c .before .before .is-named .ensures) ∙ c .before .if2 .taken) (c .rule-record .ensures)
+returns-2 c =
+    let second = c .before in
+    let first = second .before .before .before in
+    simp (sym (first .before .is-skipped .ensures) ∙ first .if1 .left, sym (second .before .is-named .ensures) ∙ second .if2 .taken) (c .rule-record .ensures)
 
 returns-3 : tie.Need-returns-3
 unfolding ruleLine
-returns-3 c = simp (sym (c .before .before .before .before .is-skipped .ensures) ∙ c .before .before .before .if1 .left, sym (c .before .is-named .ensures) ∙ c .if2 .left)
+returns-3 c =
+    let first = c .before .before .before in
+    simp (sym (first .before .is-skipped .ensures) ∙ first .if1 .left, sym (c .before .is-named .ensures) ∙ c .if2 .left)
 
 pub rule-line-spec : {M : Type 1} → statement M
 rule-line-spec =

@@ -1,12 +1,12 @@
--- The five fields, where there is room. Assumes nothing.
+-- Its action and block, where there is room. Assumes nothing.
 use mathlib.Core.Path.{sym, _∙_}
 use borrow.Author.Needs.{needs}
 use Rattle.rule_text.specs.RuleTexts.{ruleRecord}
 use Rattle.rule_text.proofs.rule_record.Statement.{statement}
 use Rattle.rule_text.proofs.rule_record.Tie as tie
 
-read-five-requires : tie.Need-read-five-requires
-read-five-requires c κs = search needs
+read-record-requires : tie.Need-read-record-requires
+read-record-requires c κs = search needs
 
 enum-known-action : tie.Need-enum-known-action
 enum-known-action c = search needs
@@ -16,12 +16,12 @@ enum-known-number c = search needs
 
 returns : tie.Need-returns
 unfolding ruleRecord
-returns c = simp (sym (c .before .before .before .read-five .ensures) ∙ c .before .action .given .1)
+returns c = simp (sym (c .before .before .before .read-record .ensures) ∙ c .before .action .given .1)
 
 returns-2 : tie.Need-returns-2
 unfolding ruleRecord
-returns-2 c = simp (sym (c .before .before .before .read-five .ensures) ∙ c .before .number .given .1)
+returns-2 c = simp (sym (c .before .before .before .read-record .ensures) ∙ c .before .number .given .1)
 
 pub rule-record-spec : {M : Type 1} → statement M
 rule-record-spec =
-    tie.close (tie.spec read-five-requires enum-known-action enum-known-number returns returns-2)
+    tie.close (tie.spec read-record-requires enum-known-action enum-known-number returns returns-2)

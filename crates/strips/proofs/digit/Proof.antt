@@ -3,6 +3,7 @@ use mathlib.Core.Path.{sym}
 use Prim.Native.Nat.{_+_, _*_}
 use native.Mathlib.Omega.{arith}
 use borrow.Author.Needs.{needs}
+use Rattle.meaning.specs.Sizes.{blockBounds}
 use Rattle.strips.proofs.SpanMasks.{holding-it, not-holding-low, not-holding-high}
 use Rattle.strips.proofs.digit.Statement.{statement}
 use Rattle.strips.proofs.digit.Tie as tie
@@ -23,7 +24,7 @@ shared-slice-read-if1 : tie.Need-shared-slice-read-if1
 shared-slice-read-if1 c = search needs
 
 cast-if1 : tie.Need-cast-if1
-cast-if1 c = let a = c .before .args in omega (arith, c .shared-slice-known .given (8 * a .j + 2 * a .field))
+cast-if1 c = let a = c .before .args in omega (arith, c .shared-slice-known .given (blockBounds * a .j + 2 * a .field))
 
 add-if2 : tie.Need-add-if2
 add-if2 c = search needs
@@ -35,7 +36,7 @@ shared-slice-read-if2 : tie.Need-shared-slice-read-if2
 shared-slice-read-if2 c = search needs
 
 cast-if2 : tie.Need-cast-if2
-cast-if2 c = let a = c .before .before .before .args in omega (arith, c .shared-slice-known2 .given (8 * a .j + 2 * a .field + 1))
+cast-if2 c = let a = c .before .before .before .args in omega (arith, c .shared-slice-known2 .given (blockBounds * a .j + 2 * a .field + 1))
 
 returns : tie.Need-returns
 returns c = sym (holding-it _ _ (c .before .before .if1 .taken) (c .if2 .taken))

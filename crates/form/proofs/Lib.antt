@@ -1,0 +1,3 @@
+mod Exceptions
+mod Orders
+pub mod OneAnswer

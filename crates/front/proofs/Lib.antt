@@ -1,0 +1,3 @@
+-- The laws of the front words.
+mod MaskWalk
+mod FrontWords

@@ -1,0 +1,71 @@
+-- The invariant: the mask is that of the directives from i on. Assumes nothing.
+use mathlib.Core.Path.{_≡_}
+use native.Mathlib.Omega.{arith}
+use borrow.Author.Needs.{needs}
+use lib.ListN.{length}
+use Rattle.meaning.specs.Form.{mostDirectives}
+use Rattle.cells.specs.Words.{accepts}
+use Rattle.sets.proofs.Walks.{length-of-map}
+use Rattle.sets.specs.Vocabulary.{directiveOf}
+use Rattle.front.proofs.MaskWalk.{MaskFrom, mask-end, mask-more, mask-room, mask-start}
+use Rattle.front.proofs.accepting_directives.Statement.{statement}
+use Rattle.front.proofs.accepting_directives.Tie as tie
+
+abbrev Inv-loop : tie.InvT-loop
+Inv-loop policy mask₀ i₀ mask i = MaskFrom directiveOf accepts (policy .directives) (policy .«directive_count») i mask
+
+abbrev μ-loop : tie.MeasureT-loop
+μ-loop policy mask₀ i₀ mask i = i
+
+loop-holds : tie.Need-loop-holds Inv-loop μ-loop
+loop-holds c = mask-start _ _ _ _
+
+sub-i : tie.Need-sub-i Inv-loop μ-loop
+sub-i c = search needs
+
+mul-directive : tie.Need-mul-directive Inv-loop μ-loop
+mul-directive c = search needs
+
+element-copy-out-directive : tie.Need-element-copy-out-directive Inv-loop μ-loop
+element-copy-out-directive c = search needs
+
+accepting-requires : tie.Need-accepting-requires Inv-loop μ-loop
+accepting-requires c κs = search needs
+
+mul-mask : tie.Need-mul-mask Inv-loop μ-loop
+mul-mask c =
+    let full : length (c .before .before .before .before .args .t1 .directives) ≡ mostDirectives = search (needs, length-of-map) in
+    omega (arith, mask-room _ _ _ _ (omega arith) _ _ _ _ (omega arith) (c .before .before .before .loop .inv) (c .accepting .ensures) (omega arith))
+
+add-mask : tie.Need-add-mask Inv-loop μ-loop
+add-mask c =
+    let full : length (c .before .before .before .before .args .t1 .directives) ≡ mostDirectives = search (needs, length-of-map) in
+    omega (arith, mask-room _ _ _ _ (omega arith) _ _ _ _ (omega arith) (c .before .before .before .loop .inv) (c .accepting .ensures) (omega arith))
+
+loop-less : tie.Need-loop-less Inv-loop μ-loop
+loop-less c = search needs
+
+loop-again : tie.Need-loop-again Inv-loop μ-loop
+loop-again c =
+    let full : length (c .before .before .before .before .args .t1 .directives) ≡ mostDirectives = search (needs, length-of-map) in
+    mask-more _ _ _ _ (omega arith) _ _ _ _ (omega arith) (c .before .before .before .loop .inv) (c .accepting .ensures)
+
+returns : tie.Need-returns Inv-loop μ-loop
+returns c = mask-end _ _ _ _ (omega arith) (c .before .loop .inv)
+
+pub accepting-directives-spec : {M : Type 1} → statement M
+accepting-directives-spec =
+    tie.close
+    (tie.spec
+    Inv-loop
+    μ-loop
+    loop-holds
+    sub-i
+    mul-directive
+    element-copy-out-directive
+    accepting-requires
+    mul-mask
+    add-mask
+    loop-less
+    loop-again
+    returns)

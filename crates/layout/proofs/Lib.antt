@@ -1,0 +1,3 @@
+-- The laws of masks, and of numbers stored one after the other.
+pub mod MaskLaws
+pub mod Storing
