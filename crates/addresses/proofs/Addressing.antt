@@ -27,13 +27,23 @@ last = 4294967295
 quad-not-past : (s : List ℕ) → NotPast last (quadOf s)
 unfolding quadOf
 quad-not-past s =
-    go (eqb (length (parts dot s)) 4) (decimalOf 255 (part dot s 0)) (decimalOf 255 (part dot s 1)) (decimalOf 255 (part dot s 2)) (decimalOf 255 (part dot s 3))
-    (decimal-not-past 255 (part dot s 0)) (decimal-not-past 255 (part dot s 1)) (decimal-not-past 255 (part dot s 2)) (decimal-not-past 255 (part dot s 3))
+    go (eqb (length (parts dot s)) 4)
+    (decimalOf 255 (part dot s 0))
+    (decimalOf 255 (part dot s 1))
+    (decimalOf 255 (part dot s 2))
+    (decimalOf 255 (part dot s 3))
+    (decimal-not-past 255 (part dot s 0))
+    (decimal-not-past 255 (part dot s 1))
+    (decimal-not-past 255 (part dot s 2))
+    (decimal-not-past 255 (part dot s 3))
   where
     go : (four : Bool) (a b c d : Number) → NotPast 255 a → NotPast 255 b → NotPast 255 c → NotPast 255 d
         → NotPast last
         (cond four
-        (onNumber a number.Unread (λ w. onNumber b number.Unread (λ x. onNumber c number.Unread (λ y. onNumber d number.Unread (λ z. number.Is (((w * 256 + x) * 256 + y) * 256 + z))))))
+        (onNumber a number.Unread (λ w.
+        onNumber b number.Unread (λ x.
+        onNumber c number.Unread (λ y.
+        onNumber d number.Unread (λ z. number.Is (((w * 256 + x) * 256 + y) * 256 + z))))))
         number.Unread)
     go false a b c d e f g h = tt
     go true number.Unread b c d e f g h = tt
@@ -77,12 +87,15 @@ sized-in-field a s h = go (decimalOf 32 s) (quadOf s) (decimal-not-past 32 s)
 
 pub address-in-field : (s : List ℕ) → InField last (addressOf s)
 unfolding addressOf
-address-in-field s = go (same s (bytes "*")) (eqb (length (parts slash s)) 2) (eqb (length (parts minus s)) 2) (quadOf (part slash s 0)) (quad-not-past (part slash s 0))
+address-in-field s =
+    go (same s (bytes "*")) (eqb (length (parts slash s)) 2) (eqb (length (parts minus s)) 2)
+    (quadOf (part slash s 0)) (quad-not-past (part slash s 0))
   where
     go : (a b c : Bool) (n : Number) → NotPast last n
         → InField last
         (cond a (bounds.Are (span 0 last))
-        (cond b (onNumber n bounds.Unread (λ low. sizedBy low (part slash s 1))) (cond c (range (quadOf (part minus s 0)) (quadOf (part minus s 1))) (single (quadOf s)))))
+        (cond b (onNumber n bounds.Unread (λ low. sizedBy low (part slash s 1)))
+        (cond c (range (quadOf (part minus s 0)) (quadOf (part minus s 1))) (single (quadOf s)))))
     go true b c n h = (omega arith, omega arith)
     go false true c (number.Is low) h = sized-in-field low (part slash s 1) h
     go false true c number.Unread h = tt

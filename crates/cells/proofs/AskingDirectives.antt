@@ -1,5 +1,5 @@
 -- What the directives ask for, by masks: an exception left turns its directive round. Assumes nothing.
-use mathlib.Core.Path.{_≡_, refl, sym, ap, _∙_}
+use mathlib.Core.Path.{_≡_, refl, sym, ap, _∙_, subst}
 use mathlib.Core.Bool.{Bool, true, false, not, _&&_, _||_, cond}
 use mathlib.Core.List.{List, [], _∷_}
 use Prim.Native.Nat.{ℕ, zero, suc, _+_, _*_, _≤_, _<_}
@@ -73,19 +73,30 @@ module _ {A : Type 0} where
       by true = refl
       by false = refl
 
+-- the word of a directive is the mask of its exceptions
+abbrev Owned : List ℕ → List Exception → ℕ → Type 0
+Owned words es j = getD words (firstOwner + j) 0 ≡ mask (λ (e : Exception). eqb (e .directive) (suc j)) es
+
+-- it is, under another number
+owned-at : (words : List ℕ) (es : List Exception) (j k : ℕ) → k ≡ j → Owned words es k → Owned words es j
+owned-at words es j k e h = subst (λ (i : ℕ). Owned words es i) e h
+
 module _ (p : Packet) where
   -- the exception holds p
   abbrev pub at-exception : Exception → Bool
   at-exception e = holds (e .block) p
 
   -- an exception of directive n holds p
-  named-some : (n : ℕ) (es : List Exception) → someOf (λ (e : Exception). at-exception e && eqb (e .directive) n) es ≡ someOf (λ (b : Block). holds b p) (naming n es)
+  named-some : (n : ℕ) (es : List Exception)
+      → someOf (λ (e : Exception). at-exception e && eqb (e .directive) n) es ≡ someOf (λ (b : Block). holds b p) (naming n es)
   unfolding someOf naming
   named-some n [] = refl
-  named-some n (e ∷ es) = ap (λ (b : Bool). at-exception e && eqb (e .directive) n || b) (named-some n es) ∙ by (at-exception e) (eqb (e .directive) n) refl
+  named-some n (e ∷ es) =
+      ap (λ (b : Bool). at-exception e && eqb (e .directive) n || b) (named-some n es) ∙ by (at-exception e) (eqb (e .directive) n) refl
     where
       by : (h named : Bool) → at-exception e ≡ h
-          → (h && named || someOf (λ (b : Block). holds b p) (naming n es)) ≡ someOf (λ (b : Block). holds b p) (cond named (e .block ∷ naming n es) (naming n es))
+          → (h && named || someOf (λ (b : Block). holds b p) (naming n es))
+          ≡ someOf (λ (b : Block). holds b p) (cond named (e .block ∷ naming n es) (naming n es))
       by true true same = sym (ap (λ (b : Bool). b || someOf (λ (b : Block). holds b p) (naming n es)) same)
       by true false same = refl
       by false true same = sym (ap (λ (b : Bool). b || someOf (λ (b : Block). holds b p) (naming n es)) same)
@@ -102,28 +113,23 @@ module _ (p : Packet) where
   module _ (test : Action → Block → Bool) (words : List ℕ) (es : List Exception) where
     -- a directive that passes a test, and of which no exception holds p
     free-directive : (m t : ℕ) (ds : List Rule) → length ds ≤ m
-        → ((j : ℕ) → j < length ds → getD words (firstOwner + (t + j)) 0 ≡ mask (λ (e : Exception). eqb (e .directive) (suc (t + j))) es)
+        → ((j : ℕ) → j < length ds → Owned words es (t + j))
         → freeFrom m t words (mask at-exception es) (mask (λ (d : Rule). test (d .action) (d .block)) ds)
         ≡ someOf (λ (d : Directive). test (d .action) (d .block) && not (excepted d p)) (directivesFrom (suc t) ds es)
     unfolding mask freeFrom someOf directivesFrom excepted
     free-directive m t [] h each = free-none m t words (mask at-exception es)
     free-directive zero t (d ∷ ds) h each = absurd (omega arith)
     free-directive (suc m) t (d ∷ ds) h each =
-        let here : t + 0 ≡ t = omega arith in
-        let own : getD words (firstOwner + t) 0 ≡ mask (λ (e : Exception). eqb (e .directive) (suc t)) es =
-        ap (λ (j : ℕ). getD words (firstOwner + j) 0) (sym here) ∙ each 0 (omega arith) ∙ ap (λ (j : ℕ). mask (λ (e : Exception). eqb (e .directive) (suc j)) es) here in
-        let later =
-        free-directive m (t + 1) ds (omega arith)
-        (λ j l.
-        let next : t + 1 + j ≡ t + suc j = omega arith in
-        ap (λ (i : ℕ). getD words (firstOwner + i) 0) next ∙ each (suc j) (omega arith) ∙ ap (λ (i : ℕ). mask (λ (e : Exception). eqb (e .directive) (suc i)) es) (sym next)) in
+        let own : Owned words es t = owned-at words es t (t + 0) (omega arith) (each 0 (omega arith)) in
+        let later = free-directive m (t + 1) ds (omega arith) (λ j l. owned-at words es (t + 1 + j) (t + suc j) (omega arith) (each (suc j) (omega arith))) in
+        let free : Directive → Bool = λ r. test (r .action) (r .block) && not (excepted r p) in
         rw (lowest-digit (test (d .action) (d .block)) (mask (λ (r : Rule). test (r .action) (r .block)) ds))
         (rw (other-digits (test (d .action) (d .block)) (mask (λ (r : Rule). test (r .action) (r .block)) ds))
         (rw own
         (rw (digit-is (test (d .action) (d .block)))
         (rw (named-none (suc t) es)
         (ap (λ (b : Bool). test (d .action) (d .block) && not (someOf (λ (b : Block). holds b p) (naming (suc t) es)) || b)
-        (later ∙ ap (λ (k : ℕ). someOf (λ (r : Directive). test (r .action) (r .block) && not (someOf (λ (b : Block). holds b p) (r .exceptions))) (directivesFrom (suc k) ds es)) (add-one t)))))))
+        (later ∙ ap (λ (k : ℕ). someOf free (directivesFrom (suc k) ds es)) (add-one t)))))))
 
   -- an exception that holds p, of a directive whose action passes a test
   exception-asks : (test : Action → Bool) (n : ℕ) (ds : List Rule) (es : List Exception)
@@ -166,17 +172,18 @@ module _ (p : Packet) where
       → askedBy words (mask at-exception es) turning own ≡ someOf (λ (d : Directive). asks d a p) (directivesFrom 1 ds es)
   unfolding askedBy
   asked-by-masks a words ds es turning own few each is-turning is-own =
-      (λ i.
-      (ap (λ (m : ℕ). ltb 0 (bitAnd (mask at-exception es) m)) is-turning
-      ∙ ap (ltb 0) (mask-and at-exception (λ (e : Exception). namesSuch (λ (d : Rule). sameAction a (opposite (d .action))) 1 ds (e .directive)) es)
-      ∙ mask-some (λ (e : Exception). at-exception e && namesSuch (λ (d : Rule). sameAction a (opposite (d .action))) 1 ds (e .directive)) es
-      ∙ exception-asks (λ (b : Action). sameAction a (opposite b)) 1 ds es)
-      i
-      || (ap (freeFrom maskDigits 0 words (mask at-exception es)) is-own
+      let turns : Exception → Bool = λ e. namesSuch (λ (d : Rule). sameAction a (opposite (d .action))) 1 ds (e .directive) in
+      let turned : Directive → Bool = λ d. excepted d p && sameAction a (opposite (d .action)) in
+      let free : Directive → Bool = λ d. (sameAction a (d .action) && holds (d .block) p) && not (excepted d p) in
+      let by-exceptions =
+      ap (λ (m : ℕ). ltb 0 (bitAnd (mask at-exception es) m)) is-turning
+      ∙ ap (ltb 0) (mask-and at-exception turns es)
+      ∙ mask-some (λ (e : Exception). at-exception e && turns e) es
+      ∙ exception-asks (λ (b : Action). sameAction a (opposite b)) 1 ds es in
+      let by-itself =
+      ap (freeFrom maskDigits 0 words (mask at-exception es)) is-own
       ∙ free-directive (λ (b : Action) (c : Block). sameAction a b && holds c p) words es maskDigits 0 ds few
-      (λ j l. let none : 0 + j ≡ j = omega arith in ap (λ (k : ℕ). getD words (firstOwner + k) 0) none ∙ each j l ∙ ap (λ (k : ℕ). mask (λ (e : Exception). eqb (e .directive) (suc k)) es) (sym none)))
-      i)
-      ∙ sym
-      (some-or (λ (d : Directive). excepted d p && sameAction a (opposite (d .action))) (λ (d : Directive). (sameAction a (d .action) && holds (d .block) p) && not (excepted d p))
-      (directivesFrom 1 ds es))
+      (λ j l. owned-at words es (0 + j) j (omega arith) (each j l)) in
+      (λ i. by-exceptions i || by-itself i)
+      ∙ sym (some-or turned free (directivesFrom 1 ds es))
       ∙ sym (some-each (split-asks a) (directivesFrom 1 ds es))

@@ -13,7 +13,7 @@ use lib.Seq.{drop-cons}
 use Rattle.meaning.specs.Fields.{range-none, range-more}
 use Rattle.meaning.specs.Labels.{good}
 use Rattle.meaning.specs.Listings.{Agree}
-use Rattle.meaning.specs.Sizes.{maskDigits}
+use Rattle.meaning.specs.Sizes.{maskDigits, acceptingDirectives}
 use Rattle.meaning.proofs.ListingUnique.{agree-at}
 use Rattle.cells.specs.declared.Left.{Left}
 use Rattle.cells.specs.Cells.{Chart, freeFrom, askedBy, accepting, leftLabel, spot, leftAt, step, cellLabel, below, Same, Nothing}
@@ -38,7 +38,7 @@ nothing-asked words e turning own z o =
 nothing-good : (words : List ℕ) (s : Left) → Nothing s → leftLabel words s ≡ good
 unfolding leftLabel
 nothing-good words s n =
-    let own : accepting words s ≡ 0 = ap (λ (x : ℕ). bitAnd x (getD words 1 0)) (n .no-directive) ∙ and-zero-l (getD words 1 0) in
+    let own : accepting words s ≡ 0 = ap (λ (x : ℕ). bitAnd x (getD words acceptingDirectives 0)) (n .no-directive) ∙ and-zero-l (getD words acceptingDirectives 0) in
     let other : bitXor (s .directives) (accepting words s) ≡ 0 = (λ i. bitXor (n .no-directive i) (own i)) in
     sym (label-nothing _ _ _ _ _ (nothing-asked words _ _ _ (n .no-exception) own) (nothing-asked words _ _ _ (n .no-exception) other) (n .no-rule))
 

@@ -57,13 +57,15 @@ module _ (w : Chart) (field : ℕ) (a b : Left) (count : ℕ) where
     pub compared-end : count ≤ strip → Same w field a b
     compared-end h = same-strips w field a b (z .is-field) (λ i l. z .agreed i (omega (arith, z .is-count)))
 
-    pub compared-stop : (x′ y′ : Left) → strip < count → x′ ≡ step w field a strip → y′ ≡ step w field b strip → ¬ Same w (field + 1) x′ y′ → ¬ Same w field a b
+    pub compared-stop : (x′ y′ : Left) → strip < count → x′ ≡ step w field a strip → y′ ≡ step w field b strip → ¬ Same w (field + 1) x′ y′
+        → ¬ Same w field a b
     compared-stop x′ y′ h ex ey d =
         differ-strip w field a b strip (z .is-field) (omega (arith, z .is-count))
         (subst (λ (u : Left). ¬ Same w (field + 1) u (step w field b strip)) ex (subst (λ (u : Left). ¬ Same w (field + 1) x′ u) ey d))
 
 -- where no field is left, the answer is whether the labels are the same
-pub told-last : (w : Chart) (field : ℕ) (a b : Left) (r : Bool) → field ≡ length (w .counts) → Tells r (leftLabel (w .words) a ≡ leftLabel (w .words) b)
+pub told-last : (w : Chart) (field : ℕ) (a b : Left) (r : Bool) → field ≡ length (w .counts)
+    → Tells r (leftLabel (w .words) a ≡ leftLabel (w .words) b)
     → Tells r (Same w field a b)
 told-last w field a b true e t = same-last w field a b e t
 told-last w field a b false e t = differ-last w field a b e t

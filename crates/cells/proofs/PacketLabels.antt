@@ -13,7 +13,7 @@ use Rattle.meaning.specs.Labels.{judged, label}
 use Rattle.meaning.specs.Policies.{Directive, asks, asked}
 use Rattle.meaning.specs.Records.{someOf}
 use Rattle.meaning.specs.Rules.{Action, accept, deny, opposite, sameAction, Rule, deciding}
-use Rattle.meaning.specs.Sizes.{maskDigits}
+use Rattle.meaning.specs.Sizes.{maskDigits, acceptingRules, ofAccepting, ofDenying}
 use Rattle.meaning.proofs.RecordsEvery.{every-of}
 use Rattle.cells.specs.declared.Left.{Left}
 use Rattle.cells.specs.Cells.{labelBy, accepting, acceptAsked, denyAsked, leftLabel}
@@ -88,8 +88,8 @@ module _
     accept-is : acceptAsked words here ≡ someOf (λ (d : Directive). asks d accept p) all
     unfolding sameAction opposite
     accept-is =
-        asked-by-masks p accept words directives exceptions (getD words 3 0) (accepting words here) few-directives (front .of-each)
-        (turned accept (getD words 3 0) (λ (d : Rule). not (accepts d)) (front .of-denying) (λ d. by (d .action))) own-accept
+        asked-by-masks p accept words directives exceptions (getD words ofDenying 0) (accepting words here) few-directives (front .of-each)
+        (turned accept (getD words ofDenying 0) (λ (d : Rule). not (accepts d)) (front .of-denying) (λ d. by (d .action))) own-accept
       where
         by : (a : Action) → not (sameAction accept a) ≡ sameAction accept (opposite a)
         by accept = refl
@@ -98,14 +98,14 @@ module _
     deny-is : denyAsked words here ≡ someOf (λ (d : Directive). asks d deny p) all
     unfolding sameAction opposite
     deny-is =
-        asked-by-masks p deny words directives exceptions (getD words 2 0) (bitXor (here .directives) (accepting words here)) few-directives (front .of-each)
-        (turned deny (getD words 2 0) accepts (front .of-accepting) (λ d. by (d .action))) own-deny
+        asked-by-masks p deny words directives exceptions (getD words ofAccepting 0) (bitXor (here .directives) (accepting words here)) few-directives (front .of-each)
+        (turned deny (getD words ofAccepting 0) accepts (front .of-accepting) (λ d. by (d .action))) own-deny
       where
         by : (a : Action) → sameAction accept a ≡ sameAction deny (opposite a)
         by accept = refl
         by deny = refl
 
-    first-is : decided maskDigits 1 (here .rules) (bitAnd (here .rules) (getD words 0 0)) ≡ bared (deciding rules p)
+    first-is : decided maskDigits 1 (here .rules) (bitAnd (here .rules) (getD words acceptingRules 0)) ≡ bared (deciding rules p)
     unfolding deciding
     first-is =
         ap (decided maskDigits 1 (here .rules)) (ap (bitAnd (here .rules)) (front .accepting-rules) ∙ mask-and (λ (r : Rule). holds (r .block) p) accepts rules)

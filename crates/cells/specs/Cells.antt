@@ -11,7 +11,7 @@ use Rattle.meaning.specs.Labels.{Label, kind, rule, judged}
 use Rattle.meaning.specs.Listings.{Agree}
 use Rattle.meaning.specs.Records.{nothing, found}
 use Rattle.meaning.specs.Rules.{accept, deny}
-use Rattle.meaning.specs.Sizes.{mostStrips, maskKinds, maskDigits, fieldMasks, firstOwner, frontWords}
+use Rattle.meaning.specs.Sizes.{mostStrips, maskKinds, maskDigits, fieldMasks, firstOwner, frontWords, acceptingRules, acceptingDirectives, ofAccepting, ofDenying}
 use Rattle.cells.specs.declared.Left.{Left}
 
 -- What a walk looks at. The words are: which rules accept; which directives ask for accept; the exceptions of the directives that
@@ -45,19 +45,19 @@ labelBy accepted denied rules t u =
 
 -- the directives left that ask for accept, and whether accept and deny are asked for
 abbrev pub accepting : List ℕ → Left → ℕ
-accepting words s = bitAnd (s .directives) (getD words 1 0)
+accepting words s = bitAnd (s .directives) (getD words acceptingDirectives 0)
 
 abbrev pub acceptAsked : List ℕ → Left → Bool
-acceptAsked words s = askedBy words (s .exceptions) (getD words 3 0) (accepting words s)
+acceptAsked words s = askedBy words (s .exceptions) (getD words ofDenying 0) (accepting words s)
 
 abbrev pub denyAsked : List ℕ → Left → Bool
-denyAsked words s = askedBy words (s .exceptions) (getD words 2 0) (bitXor (s .directives) (accepting words s))
+denyAsked words s = askedBy words (s .exceptions) (getD words ofAccepting 0) (bitXor (s .directives) (accepting words s))
 
 -- the label that what is left gives
 unfoldable pub leftLabel : List ℕ → Left → Label
 leftLabel words s =
     labelBy (acceptAsked words s) (denyAsked words s) (s .rules) (trailingZeros maskDigits (s .rules))
-    (trailingZeros maskDigits (bitAnd (s .rules) (getD words 0 0)))
+    (trailingZeros maskDigits (bitAnd (s .rules) (getD words acceptingRules 0)))
 
 -- a label as one number: its kind, and eight times its rule
 abbrev pub labelNumber : Label → ℕ

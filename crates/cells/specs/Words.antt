@@ -7,7 +7,7 @@ use lib.Dec.{eqb}
 use lib.ListN.{length, getD}
 use Rattle.meaning.specs.Form.{Exception}
 use Rattle.meaning.specs.Rules.{Rule, accept, sameAction}
-use Rattle.meaning.specs.Sizes.{firstOwner}
+use Rattle.meaning.specs.Sizes.{firstOwner, acceptingRules, acceptingDirectives, ofAccepting, ofDenying}
 use Rattle.layout.specs.Masks.{mask}
 
 -- a rule accepts; of a directive's record, it asks for accept
@@ -21,8 +21,8 @@ namesSuch test n (d ∷ ds) j = (eqb j n && test d) || namesSuch test (suc n) ds
 
 -- the front words of a walk for these rules, directives and exceptions
 pub record WordsOf (rules directives : List Rule) (exceptions : List Exception) (words : List ℕ) : Type 0 where
-  pub accepting-rules : getD words 0 0 ≡ mask accepts rules
-  pub accepting-directives : getD words 1 0 ≡ mask accepts directives
-  pub of-accepting : getD words 2 0 ≡ mask (λ (e : Exception). namesSuch accepts 1 directives (e .directive)) exceptions
-  pub of-denying : getD words 3 0 ≡ mask (λ (e : Exception). namesSuch (λ (d : Rule). not (accepts d)) 1 directives (e .directive)) exceptions
+  pub accepting-rules : getD words acceptingRules 0 ≡ mask accepts rules
+  pub accepting-directives : getD words acceptingDirectives 0 ≡ mask accepts directives
+  pub of-accepting : getD words ofAccepting 0 ≡ mask (λ (e : Exception). namesSuch accepts 1 directives (e .directive)) exceptions
+  pub of-denying : getD words ofDenying 0 ≡ mask (λ (e : Exception). namesSuch (λ (d : Rule). not (accepts d)) 1 directives (e .directive)) exceptions
   pub of-each : (t : ℕ) → t < length directives → getD words (firstOwner + t) 0 ≡ mask (λ (e : Exception). eqb (e .directive) (suc t)) exceptions

@@ -6,6 +6,7 @@
 use layout::ACCEPTING_DIRECTIVES;
 use layout::ACCEPTING_RULES;
 use layout::FIRST_MASK;
+use layout::MASK_KINDS;
 use layout::MOST_STRIPS;
 use layout::OF_ACCEPTING;
 use layout::OF_DENYING;
@@ -66,7 +67,7 @@ pub fn left_at(field: usize, strip: usize, left: Left, words: &[u64]) -> Left
     requires { ⌜ spot field strip + 2 < length (now words) ⌝ }
     ensures { λ r. ⌜ r ≡ leftAt (now (words .entry)) field strip left ⌝ }
 {
-    let at = 3 * (field * MOST_STRIPS + strip) + FIRST_MASK;
+    let at = MASK_KINDS * (field * MOST_STRIPS + strip) + FIRST_MASK;
     Left {
         rules: left.rules & words[at],
         directives: left.directives & words[at + 1],

@@ -38,14 +38,18 @@ module _ {numbers : List ℕ} {field n rules directives exceptions : ℕ} {masks
   -- a strip begins below the size; it has ended above 0 and not past the size
   pub strip-begins : (i : ℕ) → i < count → getD places i 0 < n
   strip-begins i h =
-      omega
-      (arith, place-charted i (omega arith), fieldCut c .rising i (omega (arith, c .found .counted)), place-size (fieldCut c) (suc i) (omega (arith, c .found .counted)))
+      let counted = c .found .counted in
+      let size = place-size (fieldCut c) (suc i) (omega (arith, counted)) in
+      omega (arith, place-charted i (omega arith), fieldCut c .rising i (omega (arith, counted)), size)
 
   pub strip-ends : (i : ℕ) → i < count → (0 < getD places (i + 1) 0) × (getD places (i + 1) 0 ≤ n)
   strip-ends i h =
       let next = ap (λ (j : ℕ). place (fieldCut c) j) (add-one i) in
       let at = place-charted (i + 1) (omega arith) in
-      (omega (arith, at, next, fieldCut c .rising i (omega (arith, c .found .counted))), omega (arith, at, next, place-size (fieldCut c) (suc i) (omega (arith, c .found .counted))))
+      let counted = c .found .counted in
+      let rises = fieldCut c .rising i (omega (arith, counted)) in
+      let size = place-size (fieldCut c) (suc i) (omega (arith, counted)) in
+      (omega (arith, at, next, rises), omega (arith, at, next, size))
 
 module _ (places : List ℕ) where
   -- the place of a strip in each field from a field on

@@ -35,7 +35,8 @@ module _ {numbers : List ℕ} {rules directives exceptions : ℕ} where
   cutsOf charted-none = []
   cutsOf (charted-more c long wide later) = fieldCut c ∷ cutsOf later
 
-  pub sizes-are : {field : ℕ} {ns masks places counts : List ℕ} (f : FieldsCharted numbers rules directives exceptions field ns masks places counts) → sizes (cutsOf f) ≡ ns
+  pub sizes-are : {field : ℕ} {ns masks places counts : List ℕ} (f : FieldsCharted numbers rules directives exceptions field ns masks places counts)
+      → sizes (cutsOf f) ≡ ns
   sizes-are charted-none = refl
   sizes-are (charted-more {n} c long wide later) = ap (λ (ms : List ℕ). n ∷ ms) (sizes-are later)
 

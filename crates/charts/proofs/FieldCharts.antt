@@ -54,7 +54,12 @@ module _ {numbers : List ℕ} {rules directives exceptions : ℕ} where
   chart-at all {first} zero (charted-more {n} {count} {masks} {places} {more-places} chart long wide rest) there h =
       let here : first ≡ first + 0 = omega arith in
       subst (λ (f : ℕ). ChartAt numbers rules directives exceptions f n all count) here
-      (record { its-masks = masks; its-places = places; its-chart = chart; places-at = λ j b. parts-here fieldPlaces all first places more-places there j (omega arith) })
+      (record {
+        its-masks = masks;
+        its-places = places;
+        its-chart = chart;
+        places-at = λ j b. parts-here fieldPlaces all first places more-places there j (omega arith);
+      })
   chart-at all {first} (suc k) (charted-more {ns} {places} {more-places} {counts} chart long wide rest) there h =
       let next : first + 1 + k ≡ first + suc k = omega arith in
       subst (λ (f : ℕ). ChartAt numbers rules directives exceptions f (getD ns k 0) all (getD counts k 0)) next

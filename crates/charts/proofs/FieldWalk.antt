@@ -94,7 +94,8 @@ module _ (numbers : List ℕ) (rules directives exceptions : ℕ) (ns : List ℕ
       let grown-masks : take (fieldMasks * (field + 1)) all-masks ≡ take (fieldMasks * field) masks ++ its-masks =
       front-grows masks its-masks masks-rest (fieldMasks * field) fieldMasks (fieldMasks * (field + 1)) (omega (arith, w .long-masks)) long (omega arith) in
       let grown-places : take (fieldPlaces * (field + 1)) all-places ≡ take (fieldPlaces * field) places ++ its-places =
-      front-grows places its-places places-rest (fieldPlaces * field) fieldPlaces (fieldPlaces * (field + 1)) (omega (arith, w .long-places)) long-places (omega arith) in
+      front-grows places its-places places-rest (fieldPlaces * field) fieldPlaces (fieldPlaces * (field + 1)) (omega (arith, w .long-places)) long-places
+      (omega arith) in
       let grown-counts : take (field + 1) (set counts field count) ≡ take field counts ++ (count ∷ []) =
       rw (add-one field) (take-suc-set counts field count (omega (arith, w .long-counts))) in
       let first : drop field ns ≡ getD ns field 0 ∷ drop (field + 1) ns = rw (add-one field) (drop-cons ns field 0 h) in

@@ -87,7 +87,8 @@ module _
     (numbered : InFront (rs ++ ds ++ es) numbers)
   where
     -- a block that holds the numbers from a field on, opened
-    holds-on : (field x : ℕ) (q : Packet) (b : Block) → field < length b → holds (drop field b) (x ∷ q) ≡ (within (spanOf field b) x && holds (drop (field + 1) b) q)
+    holds-on : (field x : ℕ) (q : Packet) (b : Block) → field < length b
+        → holds (drop field b) (x ∷ q) ≡ (within (spanOf field b) x && holds (drop (field + 1) b) q)
     unfolding holds
     holds-on field x q b h = rw (add-one field) (rw (drop-cons b field noSpan h) refl)
 
@@ -107,29 +108,43 @@ module _
         (test : Block → Bool)
         (covers : Covers rs ds es s test)
       where
+        few : i < mostStrips
+        few = omega (arith, c .found .counted, c .found .few)
+
+        -- the words of the strip are its masks
+        word : (j : ℕ) → j < maskKinds → getD words (spot field i + j) 0 ≡ getD masks (maskKinds * i + j) 0
+        word j l =
+            let at : spot field i + j ≡ frontWords + (fieldMasks * field + (maskKinds * i + j)) = omega arith in
+            ap (λ (k : ℕ). getD words k 0) at
+            ∙ behind (fieldMasks * field + (maskKinds * i + j))
+            ∙ there (maskKinds * i + j) (omega (arith, few))
+
+        first-word : getD words (spot field i) 0 ≡ getD masks (maskKinds * i) 0
+        first-word =
+            let none : spot field i ≡ spot field i + 0 = omega arith in
+            let first : maskKinds * i + 0 ≡ maskKinds * i = omega arith in
+            ap (λ (k : ℕ). getD words k 0) none ∙ word 0 (omega arith) ∙ ap (λ (k : ℕ). getD masks k 0) first
+
         -- what is left at the strip is what has a span that holds x
         left-at-strip : leftAt words field i s ≡ leftBy rs ds es (λ (b : Block). test b && spanHolds field x b)
         unfolding leftAt
         left-at-strip =
-            let few : i < mostStrips = omega (arith, c .found .counted, c .found .few) in
-            let word : (j : ℕ) → j < maskKinds → getD words (spot field i + j) 0 ≡ getD masks (maskKinds * i + j) 0 =
-            λ j l. let at : spot field i + j ≡ frontWords + (fieldMasks * field + (maskKinds * i + j)) = omega arith in
-            ap (λ (k : ℕ). getD words k 0) at ∙ behind (fieldMasks * field + (maskKinds * i + j)) ∙ there (maskKinds * i + j) (omega arith) in
-            let none : spot field i ≡ spot field i + 0 = omega arith in
-            let first : maskKinds * i + 0 ≡ maskKinds * i = omega arith in
-            let w0 : getD words (spot field i) 0 ≡ getD masks (maskKinds * i) 0 = ap (λ (k : ℕ). getD words k 0) none ∙ word 0 (omega arith) ∙ ap (λ (k : ℕ). getD masks k 0) first in
+            let rules-at = first-word ∙ rule-mask numbers rs ds es shaped numbered c is-field i x h from to in
+            let directives-at = word 1 (omega arith) ∙ directive-mask numbers rs ds es shaped numbered c is-field i x h from to in
+            let exceptions-at = word 2 (omega arith) ∙ exception-mask numbers rs ds es shaped numbered c is-field i x h from to in
             λ t.
             record {
-              rules = (ap (bitAnd (s .rules)) (w0 ∙ rule-mask numbers rs ds es shaped numbered c is-field i x h from to) ∙ covers .rules (spanHolds field x)) t;
-              directives =
-                  (ap (bitAnd (s .directives)) (word 1 (omega arith) ∙ directive-mask numbers rs ds es shaped numbered c is-field i x h from to)
-                  ∙ covers .directives (spanHolds field x))
-                  t;
-              exceptions =
-                  (ap (bitAnd (s .exceptions)) (word 2 (omega arith) ∙ exception-mask numbers rs ds es shaped numbered c is-field i x h from to)
-                  ∙ covers .exceptions (spanHolds field x))
-                  t;
+              rules = (ap (bitAnd (s .rules)) rules-at ∙ covers .rules (spanHolds field x)) t;
+              directives = (ap (bitAnd (s .directives)) directives-at ∙ covers .directives (spanHolds field x)) t;
+              exceptions = (ap (bitAnd (s .exceptions)) exceptions-at ∙ covers .exceptions (spanHolds field x)) t;
             }
+
+        -- the span of the field, then those of the later fields
+        opened : (q : Packet) (b : Block) → length b ≡ fieldCount
+            → (test b && spanHolds field x b && holds (drop (field + 1) b) q) ≡ (test b && holds (drop field b) (x ∷ q))
+        opened q b l =
+            and-assoc (test b) (within (spanOf field b) x) (holds (drop (field + 1) b) q)
+            ∙ ap (λ (t : Bool). test b && t) (sym (holds-on field x q b (omega arith)))
 
         -- and then at all strips of the later fields
         left-on : (cell : List ℕ) (q : Packet)
@@ -139,8 +154,8 @@ module _
         left-on cell q rest =
             ap (λ (t : Left). leftIn (chart words counts) (field + 1) t cell) left-at-strip
             ∙ rest
-            ∙ same-left rs ds es shaped (λ (b : Block). test b && spanHolds field x b && holds (drop (field + 1) b) q) (λ (b : Block). test b && holds (drop field b) (x ∷ q))
-            (λ b l. and-assoc (test b) (within (spanOf field b) x) (holds (drop (field + 1) b) q) ∙ ap (λ (t : Bool). test b && t) (sym (holds-on field x q b (omega arith))))
+            ∙ same-left rs ds es shaped (λ (b : Block). test b && spanHolds field x b && holds (drop (field + 1) b) q)
+            (λ (b : Block). test b && holds (drop field b) (x ∷ q)) (opened q)
 
     -- all strips from a field on
     left-in-cell : {field : ℕ} {ns masks places some : List ℕ} (f : FieldsCharted numbers (length rs) (length ds) (length es) field ns masks places some)
@@ -155,8 +170,10 @@ module _
         same-left rs ds es shaped test (λ (b : Block). test b && holds (drop field b) [])
         (λ b l. and-true (test b) ∙ ap (λ (c : Block). test b && holds c []) (sym (drop-of-length-le b {i = field} (omega arith))))
     left-in-cell {field} (charted-more {masks} {more-masks} c long wide later) e there (cell-more {i} {x} {cell} {p = q} h from to s) test =
-        left-on c (omega arith) long (parts-here fieldMasks all-masks field masks more-masks there) i x h from to (leftBy rs ds es test) test (left-covers rs ds es test) cell q
-        (left-in-cell later (omega arith) (parts-later fieldMasks all-masks field masks more-masks there long) s (λ (b : Block). test b && spanHolds field x b))
+        let here = parts-here fieldMasks all-masks field masks more-masks there in
+        let behind-it = parts-later fieldMasks all-masks field masks more-masks there long in
+        let rest = left-in-cell later (omega arith) behind-it s (λ (b : Block). test b && spanHolds field x b) in
+        left-on c (omega arith) long here i x h from to (leftBy rs ds es test) test (left-covers rs ds es test) cell q rest
 
     -- from the first field on, where everything is left
     pub left-in-all : {n : ℕ} {ns masks places some : List ℕ} (f : FieldsCharted numbers (length rs) (length ds) (length es) 0 (n ∷ ns) masks places some)
@@ -168,6 +185,8 @@ module _
         → {cell : List ℕ} {q : Packet}
         → InCell (cutsOf f) cell q
         → leftIn (chart words counts) 0 everything cell ≡ leftBy rs ds es (λ (b : Block). holds b q)
-    left-in-all (charted-more {masks} {more-masks} c long wide later) e few-rules few-directives few-exceptions there (cell-more {i} {x} {cell} {p = q} h from to s) =
-        left-on c (omega arith) long (parts-here fieldMasks all-masks 0 masks more-masks there) i x h from to everything (λ (b : Block). true) (all-covers rs ds es few-rules few-directives few-exceptions) cell q
-        (left-in-cell later (omega arith) (parts-later fieldMasks all-masks 0 masks more-masks there long) s (λ (b : Block). true && spanHolds 0 x b))
+    left-in-all (charted-more {masks} {more-masks} c long wide later) e few-rs few-ds few-es there (cell-more {i} {x} {cell} {p = q} h from to s) =
+        let here = parts-here fieldMasks all-masks 0 masks more-masks there in
+        let behind-it = parts-later fieldMasks all-masks 0 masks more-masks there long in
+        let rest = left-in-cell later (omega arith) behind-it s (λ (b : Block). true && spanHolds 0 x b) in
+        left-on c (omega arith) long here i x h from to everything (λ (b : Block). true) (all-covers rs ds es few-rs few-ds few-es) cell q rest

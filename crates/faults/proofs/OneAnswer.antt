@@ -27,7 +27,10 @@ use Rattle.faults.specs.declared.Listed.{Listed}
 use Rattle.faults.proofs.listing.Reads as listing
 use Rattle.faults.proofs.verdict.Reads as verdict
 
-one-verdict : (rules : Rules) (policy : Policy) (r s : Judged) → JudgedAs rules policy r → JudgedAs rules policy s → verdictOf r ≡ verdictOf s
+one-verdict : (rules : Rules) (policy : Policy) (r s : Judged)
+    → JudgedAs rules policy r
+    → JudgedAs rules policy s
+    → verdictOf r ≡ verdictOf s
 one-verdict rules policy r s a b =
     elim (ℕ-discrete (refused rules policy .number) 0) [
       | yes e ↦ verdict-is-unique fields (labelAt rules policy) (lowestAsking (policyOf (policySetOf policy))) (a .judged e) (b .judged e)
@@ -47,15 +50,19 @@ verdict-once κs a r s after after' e f =
     }
 
 -- one listing, so one total and one content of the buffer
-one-telling : (rules : Rules) (policy : Policy) (before after after' : List ℕ) (r s : Listed) → ListedAs rules policy before after r → ListedAs rules policy before after' s
+one-telling : (rules : Rules) (policy : Policy) (before after after' : List ℕ) (r s : Listed)
+    → ListedAs rules policy before after r
+    → ListedAs rules policy before after' s
     → (r .total ≡ s .total) × (after ≡ after')
 one-telling rules policy before after after' r s a b =
     elim (ℕ-discrete (refused rules policy .number) 0) [
       | yes e ↦
           let t = a .told e in
           let u = b .told e in
-          let same = fault-listing-is-unique fields (tableOf (ruleSetOf rules)) (policyOf (policySetOf policy)) (t .blocks) (u .blocks) (t .listed) (u .listed) in
-          (t .counted ∙ ap length same ∙ sym (u .counted), t .written ∙ ap (λ (bs : List (listings.Listed labels.Label)). buffers.written fields bs before) same ∙ sym (u .written))
+          let table = tableOf (ruleSetOf rules) in
+          let same = fault-listing-is-unique fields table (policyOf (policySetOf policy)) (t .blocks) (u .blocks) (t .listed) (u .listed) in
+          let same-written = ap (λ (bs : List (listings.Listed labels.Label)). buffers.written fields bs before) same in
+          (t .counted ∙ ap length same ∙ sym (u .counted), t .written ∙ same-written ∙ sym (u .written))
       | no e ↦
           let t = a .zeros e in
           let u = b .zeros e in

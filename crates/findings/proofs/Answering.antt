@@ -66,7 +66,8 @@ module _ {rules : Rules} {policy : Policy} {words counts places : List ℕ} (lim
   pub chart-formed : Formed (chart words counts)
   chart-formed =
       let w = charts-long (fieldsCharted limited c) in
-      record { long = ap length (c .words-are) ∙ length-append (c .front) (c .masks) ∙ omega (arith, c .front-long, w .long-masks, w .long-counts); few = w .few }
+      let behind = ap length (c .words-are) ∙ length-append (c .front) (c .masks) in
+      record { long = behind ∙ omega (arith, c .front-long, w .long-masks, w .long-counts); few = w .few }
 
   pub all-counts : length counts ≡ fieldCount
   all-counts = charts-long (fieldsCharted limited c) .long-counts
@@ -80,17 +81,27 @@ module _ {rules : Rules} {policy : Policy} {words counts places : List ℕ} (lim
       let w = label-numbered (form.tableOf (ruleSetOf rules)) (form.policyOf (policySetOf policy)) q blames in
       (w .0, omega (arith, w .1, c .counted .rules, limited .few-rules, length-map (rulesOf rules) (λ (r : table.Rule). r .block)))
 
+  -- the rank of a cell, and that of a packet
+  abbrev cell-rank : List ℕ → ℕ
+  cell-rank = cellRank (chart words counts) 0 everything
+
+  abbrev packet-rank : Packet → ℕ
+  packet-rank = λ (q : Packet). rank mostRules (labelAt rules policy q)
+
   -- the ranks of cells are the ranks of their packets
-  cell-ranks : ByCells (cuts limited c) (cellRank (chart words counts) 0 everything) (λ (q : Packet). rank mostRules (labelAt rules policy q))
+  cell-ranks : ByCells (cuts limited c) cell-rank packet-rank
   cell-ranks cell q lies = ap (rank mostRules) (cell-labels limited c cell q lies)
 
   -- no cell is below good: the table conforms
-  pub none-found : ((cell : List ℕ) → InRange counts cell → goodRank ≤ cellRank (chart words counts) 0 everything cell) → VerdictFor rules policy (conforms fields)
-  none-found all =
-      none-below-good-conforms fields (labelAt rules policy) asking mostRules numbered
-      (λ q i.
-      let w = cell-of (cuts limited c) (subst (λ (ns : List ℕ). InRange ns q) (sym cut-sizes) i) in
-      omega (arith, cell-ranks (w .cell) q (w .lies), all (w .cell) (subst (λ (ns : List ℕ). InRange ns (w .cell)) cut-counts (cell-in-range (w .lies)))))
+  pub none-found : ((cell : List ℕ) → InRange counts cell → goodRank ≤ cellRank (chart words counts) 0 everything cell)
+      → VerdictFor rules policy (conforms fields)
+  none-found all = none-below-good-conforms fields (labelAt rules policy) asking mostRules numbered not-below
+    where
+      not-below : (q : Packet) → InRange fields q → goodRank ≤ packet-rank q
+      not-below q i =
+          let w = cell-of (cuts limited c) (subst (λ (ns : List ℕ). InRange ns q) (sym cut-sizes) i) in
+          let in-range = subst (λ (ns : List ℕ). InRange ns (w .cell)) cut-counts (cell-in-range (w .lies)) in
+          omega (arith, cell-ranks (w .cell) q (w .lies), all (w .cell) in-range)
 
   module _ (cell : List ℕ) (o : FirstOf counts (cellRank (chart words counts) 0 everything) cell) where
     pub cell-placed : CornerPlaced places cell
@@ -99,51 +110,64 @@ module _ {rules : Rules} {policy : Policy} {words counts places : List ℕ} (lim
     corner-is : cornerAt places cell ≡ corner (cuts limited c) cell
     corner-is = sym (corner-charted places (fieldsCharted limited c) (parts-all fieldPlaces places) (o .in-range))
 
-    first-packet : FirstOf fields (λ (q : Packet). rank mostRules (labelAt rules policy q)) (cornerAt places cell)
+    first-packet : FirstOf fields packet-rank (cornerAt places cell)
     first-packet =
-        subst (FirstOf fields (λ (q : Packet). rank mostRules (labelAt rules policy q))) (sym corner-is)
-        (subst (λ (ns : List ℕ). FirstOf ns (λ (q : Packet). rank mostRules (labelAt rules policy q)) (corner (cuts limited c) cell)) cut-sizes
-        (first-lifts (cuts limited c) (cellRank (chart words counts) 0 everything) (λ (q : Packet). rank mostRules (labelAt rules policy q)) cell-ranks cell
-        (subst (λ (ns : List ℕ). FirstOf ns (cellRank (chart words counts) 0 everything) cell) (sym cut-counts) o)))
+        let first-cell = subst (λ (ns : List ℕ). FirstOf ns cell-rank cell) (sym cut-counts) o in
+        let lifted = first-lifts (cuts limited c) cell-rank packet-rank cell-ranks cell first-cell in
+        subst (FirstOf fields packet-rank) (sym corner-is) (subst (λ (ns : List ℕ). FirstOf ns packet-rank (corner (cuts limited c) cell)) cut-sizes lifted)
+
+    -- the corner's rank is the cell's
+    corner-rank : packet-rank (cornerAt places cell) ≡ cell-rank cell
+    corner-rank =
+        let in-cell = corner-in-cell (cuts limited c) (subst (λ (ns : List ℕ). InRange ns cell) (sym cut-counts) (o .in-range)) in
+        ap packet-rank corner-is ∙ cell-ranks cell (corner (cuts limited c) cell) in-cell
 
     -- the verdict is the answer at the corner of the best cell
-    pub cell-found : cellRank (chart words counts) 0 everything cell < goodRank → VerdictFor rules policy (verdictAt (labelAt rules policy) asking (cornerAt places cell))
+    pub cell-found : cellRank (chart words counts) 0 everything cell < goodRank
+        → VerdictFor rules policy (verdictAt (labelAt rules policy) asking (cornerAt places cell))
     cell-found less =
         first-is-verdict fields (labelAt rules policy) asking mostRules numbered (cornerAt places cell) first-packet
-        (λ e.
-        let in-cell = corner-in-cell (cuts limited c) (subst (λ (ns : List ℕ). InRange ns cell) (sym cut-counts) (o .in-range)) in
-        omega (arith, good-ranks mostRules (labelAt rules policy (cornerAt places cell)) e, cell-ranks cell (corner (cuts limited c) cell) in-cell, ap (λ (q : Packet). rank mostRules (labelAt rules policy q)) corner-is))
+        (λ e. omega (arith, corner-rank, good-ranks mostRules (labelAt rules policy (cornerAt places cell)) e))
 
   -- the listing over cells is, stretched, the listing
   abbrev listed-cells : List (listings.Listed Label)
   listed-cells = blocksBelow (chart words counts) 0 everything
 
-  is-listing : ListingFor rules policy (map (lift (cuts limited c)) listed-cells)
+  -- the listing over packets
+  abbrev listed-blocks : List (listings.Listed Label)
+  listed-blocks = map (lift (cuts limited c)) listed-cells
+
+  is-listing : ListingFor rules policy listed-blocks
   is-listing =
-      subst (λ (ns : List ℕ). listings.Listing good ns (labelAt rules policy) (map (lift (cuts limited c)) listed-cells)) cut-sizes
-      (listing-lifts good (cuts limited c) (cellLabel (chart words counts) 0 everything) (labelAt rules policy) listed-cells (cell-labels limited c)
-      (subst (λ (ns : List ℕ). listings.Listing good ns (cellLabel (chart words counts) 0 everything) listed-cells) (sym cut-counts) (blocks-listed (chart words counts) 0 everything)))
+      let cell-label = cellLabel (chart words counts) 0 everything in
+      let listed = blocks-listed (chart words counts) 0 everything in
+      let by-counts = subst (λ (ns : List ℕ). listings.Listing good ns cell-label listed-cells) (sym cut-counts) listed in
+      subst (λ (ns : List ℕ). listings.Listing good ns (labelAt rules policy) listed-blocks) cut-sizes
+      (listing-lifts good (cuts limited c) cell-label (labelAt rules policy) listed-cells (cell-labels limited c) by-counts)
 
   -- its rows are those that are written
-  same-rows : {bs : List (listings.Listed Label)} → Every (InForm counts) bs → map (rowOf places 0 []) bs ≡ map buffers.row (map (lift (cuts limited c)) bs)
+  same-rows : {bs : List (listings.Listed Label)} → Every (InForm counts) bs
+      → map (rowOf places 0 []) bs ≡ map buffers.row (map (lift (cuts limited c)) bs)
   unfolding buffers.row
   same-rows every-none = refl
   same-rows (every-more {x = b} t later) =
       let stretched-is = stretch-charted places (fieldsCharted limited c) (parts-all fieldPlaces places) (b .block) t in
       λ i. (kind (b .label) ∷ rule (b .label) ∷ buffers.bounds (stretched-is i)) ∷ same-rows later i
 
-  pub listing-told : (before after : List ℕ) (total : ℕ) → total ≡ length listed-cells → after ≡ rowsFrom before 0 (map (rowOf places 0 []) listed-cells)
+  pub listing-told : (before after : List ℕ) (total : ℕ)
+      → total ≡ length listed-cells
+      → after ≡ rowsFrom before 0 (map (rowOf places 0 []) listed-cells)
       → ListingTold rules policy before after total
   listing-told before after total t a =
+      let cells-listed = blocks-listed (chart words counts) 0 everything in
+      let cells-formed = listing-in-form good counts (cellLabel (chart words counts) 0 everything) listed-cells cells-listed in
+      let blocks-formed = listing-in-form good fields (labelAt rules policy) listed-blocks is-listing in
       record {
-        blocks = map (lift (cuts limited c)) listed-cells;
+        blocks = listed-blocks;
         listed = is-listing;
         counted = t ∙ sym (length-map listed-cells (lift (cuts limited c)));
         few = omega (arith, t, blocks-few (chart words counts) everything all-counts chart-formed);
-        written =
-            a
-            ∙ ap (rowsFrom before 0) (same-rows (listing-in-form good counts (cellLabel (chart words counts) 0 everything) listed-cells (blocks-listed (chart words counts) 0 everything)))
-            ∙ rows-written before (map (lift (cuts limited c)) listed-cells) (listing-in-form good fields (labelAt rules policy) (map (lift (cuts limited c)) listed-cells) is-listing);
+        written = a ∙ ap (rowsFrom before 0) (same-rows cells-formed) ∙ rows-written before listed-blocks blocks-formed;
       }
 
   -- by the best cell: its rank is that of good, or it is the verdict's
@@ -155,11 +179,10 @@ module _ {rules : Rules} {policy : Policy} {words counts places : List ℕ} (lim
         from (none-below r all) = none-found all
         from (first-of o r less) = absurd (omega arith)
 
-    first-cell : ¬ (b .rank ≡ goodRank) → FirstOf counts (cellRank (chart words counts) 0 everything) (b .strips) × (cellRank (chart words counts) 0 everything (b .strips) < goodRank)
+    first-cell : ¬ (b .rank ≡ goodRank) → FirstOf counts cell-rank (b .strips) × (cell-rank (b .strips) < goodRank)
     first-cell e = from best
       where
-        from : BestOf counts (cellRank (chart words counts) 0 everything) b
-            → FirstOf counts (cellRank (chart words counts) 0 everything) (b .strips) × (cellRank (chart words counts) 0 everything (b .strips) < goodRank)
+        from : BestOf counts cell-rank b → FirstOf counts cell-rank (b .strips) × (cell-rank (b .strips) < goodRank)
         from (none-below r all) = absurd (e r)
         from (first-of o r less) = (o, omega (arith, r))
 
@@ -171,4 +194,5 @@ module _ {rules : Rules} {policy : Policy} {words counts places : List ℕ} (lim
         → VerdictFor rules policy (verdictOf r)
     found-right packet r e at v =
         let o = first-cell e in
-        subst (VerdictFor rules policy) (ap (verdictAt (labelAt rules policy) asking) (sym at) ∙ sym (v .answer)) (cell-found (b .strips) (o .0) (o .1))
+        let same = ap (verdictAt (labelAt rules policy) asking) (sym at) ∙ sym (v .answer) in
+        subst (VerdictFor rules policy) same (cell-found (b .strips) (o .0) (o .1))

@@ -40,14 +40,17 @@ module _ {numbers : List ℕ} {rules directives exceptions : ℕ} where
     -- where a strip begins and ends
     abbrev At : ℕ → ℕ → Type 0
     At field strip =
-        (getD places (fieldPlaces * field + strip) 0 < 2 ^ 32) × (0 < getD places (fieldPlaces * field + (strip + 1)) 0) × (getD places (fieldPlaces * field + (strip + 1)) 0 ≤ 2 ^ 32)
+        (getD places (fieldPlaces * field + strip) 0 < 2 ^ 32)
+        × (0 < getD places (fieldPlaces * field + (strip + 1)) 0)
+        × (getD places (fieldPlaces * field + (strip + 1)) 0 ≤ 2 ^ 32)
 
     strip-at : (field strip : ℕ) → strip < getD counts field 0 → At field strip
     strip-at field strip h =
         elim (decLt field fieldCount) [
           | yes l ↦
               let its : 0 + field ≡ field = omega arith in
-              let c = subst (λ (k : ℕ). ChartAt numbers rules directives exceptions k (getD fields field 0) places (getD counts field 0)) its (chart-at places field f (parts-all fieldPlaces places) l) in
+              let found = chart-at places field f (parts-all fieldPlaces places) l in
+              let c = subst (λ (k : ℕ). ChartAt numbers rules directives exceptions k (getD fields field 0) places (getD counts field 0)) its found in
               let few = charts-long f .few field in
               let ends = strip-ends (c .its-chart) strip h in (
                 omega (arith, c .places-at strip (omega arith), strip-begins (c .its-chart) strip h, size-small field),

@@ -56,7 +56,9 @@ module _ (w : Chart) (field : ℕ) (s : Left) (limit : ℕ) where
     is-cell-rank = is-rank ∙ ap (rank mostRules) is-label
 
     pub found-last : drop field (b .strips) ≡ [] → b .rank ≡ n → n < limit → BetterBelow w field s limit b
-    found-last none e less = opened (below-none w field last) (better-last (cellRank w field s) field limit b (omega (arith, is-cell-rank)) (e ∙ is-cell-rank) none)
+    found-last none e less =
+        opened (below-none w field last)
+        (better-last (cellRank w field s) field limit b (omega (arith, is-cell-rank)) (e ∙ is-cell-rank) none)
 
     pub kept-last : b .rank ≡ limit → limit ≤ n → BetterBelow w field s limit b
     kept-last e low = opened (below-none w field last) (better-kept (cellRank w field s) field limit b e (omega (arith, is-cell-rank)))
@@ -76,7 +78,8 @@ module _ (w : Chart) (field : ℕ) (s : Left) (limit : ℕ) where
           none-before = none-at-nothing w (field + 1) before (b .rank) n (omega arith);
         }
 
-    module _ (strip : ℕ) (b : Best) (before : Left) (z : Walked w field s limit count strip b before) (h : strip < count) (x : Left) (ex : x ≡ step w field s strip) where
+    module _ (strip : ℕ) (b : Best) (before : Left) (z : Walked w field s limit count strip b before) (h : strip < count) (x : Left)
+        (ex : x ≡ step w field s strip) where
       -- no cell of the strip is better
       passed : NoneBetterBelow w (field + 1) x (b .rank) → (y : Left) → NoneBetterBelow w (field + 1) y (b .rank)
           → Walked w field s limit count (strip + 1) b y

@@ -52,11 +52,17 @@ module _ (p : Packet) where
       by-tests false t few = omega arith
 
   mark-set : (marks : List Bool) (k n : ℕ) → k < length marks → getD (set marks k true) n false ≡ (getD marks n false || eqb k n)
-  mark-set marks k n h =
-      elim (ℕ-discrete n k) [
-        | yes e ↦ ap (λ (j : ℕ). getD (set marks k true) j false) e ∙ getD-set-same marks k true false h ∙ sym (ap (λ (b : Bool). getD marks n false || b) (eq-eqb k n (sym e)) ∙ or-true (getD marks n false))
-        | no d ↦ getD-set-other marks k n true false d ∙ sym (ap (λ (b : Bool). getD marks n false || b) (ne-eqb k n (λ e. d (sym e))) ∙ or-false (getD marks n false))
-      ]
+  mark-set marks k n h = elim (ℕ-discrete n k) [ yes e ↦ this e | no d ↦ other d ]
+    where
+      this : n ≡ k → getD (set marks k true) n false ≡ (getD marks n false || eqb k n)
+      this e =
+          let now = ap (λ (j : ℕ). getD (set marks k true) j false) e ∙ getD-set-same marks k true false h in
+          now ∙ sym (ap (λ (b : Bool). getD marks n false || b) (eq-eqb k n (sym e)) ∙ or-true (getD marks n false))
+
+      other : ¬ (n ≡ k) → getD (set marks k true) n false ≡ (getD marks n false || eqb k n)
+      other d =
+          let as-before = ap (λ (b : Bool). getD marks n false || b) (ne-eqb k n (λ e. d (sym e))) ∙ or-false (getD marks n false) in
+          getD-set-other marks k n true false d ∙ sym as-before
 
   -- what is marked, and what those left are yet to mark, is together what all mark
   pub record Marked (all left : List Exception) (marks : List Bool) : Type 0 where

@@ -28,8 +28,10 @@ pub const PLACES: usize = FIELD_PLACES * FIELDS;
 // The binary digits of a mask.
 const MASK_DIGITS: usize = 64;
 
-// The masks of a field: three for each strip, of rules, directives and exceptions.
-pub const FIELD_MASKS: usize = 3 * MOST_STRIPS;
+// The masks of a strip, of rules, directives and exceptions, and those of a field.
+pub const MASK_KINDS: usize = 3;
+
+pub const FIELD_MASKS: usize = MASK_KINDS * MOST_STRIPS;
 
 // What stands where among the words of a walk: which rules accept; which directives ask for accept; the exceptions of these
 // directives, and those of the others; from there on the exceptions of each directive, for as many as a mask has digits; and the

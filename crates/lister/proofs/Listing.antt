@@ -28,7 +28,8 @@ module _ (w : Chart) (field : ℕ) (s : Left) where
 
   only-blocks : (bs : List (Listed Label)) → Lists w field s bs → bs ≡ blocksBelow w field s
   only-blocks bs l =
-      listing-is-unique good (below w field) (cellLabel w field s) (cellLabel w field s) bs (blocksBelow w field s) l blocks-listed (agree-refl (cellLabel w field s))
+      listing-is-unique good (below w field) (cellLabel w field s) (cellLabel w field s) bs (blocksBelow w field s) l blocks-listed
+      (agree-refl (cellLabel w field s))
 
   -- where nothing is left, nothing is listed
   pub nothing-listed : Nothing s → blocksBelow w field s ≡ []
@@ -72,7 +73,8 @@ module _ (w : Chart) (field : ℕ) (s : Left) where
   whole : (bs : List (Listed Label)) → field < length (w .counts) → RunsOf 0 bs → bs ≡ blocksBelow w field s
   whole bs h r = only-blocks w field s bs (subst (λ (ns : List ℕ). listings.Listing good ns (cellLabel w field s) bs) (sym (below-more w field h)) r)
 
-  pub upto-end : (strip : ℕ) (bs : List (Listed Label)) → field < length (w .counts) → getD (w .counts) field 0 ≤ strip → Upto strip bs → bs ≡ blocksBelow w field s
+  pub upto-end : (strip : ℕ) (bs : List (Listed Label)) → field < length (w .counts) → getD (w .counts) field 0 ≤ strip → Upto strip bs
+      → bs ≡ blocksBelow w field s
   unfolding Upto
   upto-end strip bs h l u = whole bs h (subst (RunsOf 0) (append-nil bs) (u [] (no-more {low = strip} l)))
 
@@ -84,7 +86,7 @@ module _ (w : Chart) (field : ℕ) (s : Left) where
       let ns = below w (field + 1) in
       let later = runsFrom sameLabel same-label-iff ns (listingOf sameLabel same-label-iff good ns) n (cellLabel w field s) n strip in
       let rest : RunsOf strip later =
-      runs-computed sameLabel same-label-iff ns (listingOf sameLabel same-label-iff good ns) (listings.Listing good ns) (listing-computed sameLabel same-label-iff good ns) n (cellLabel w field s) n
-      strip (omega arith) in
+      runs-computed sameLabel same-label-iff ns (listingOf sameLabel same-label-iff good ns) (listings.Listing good ns)
+      (listing-computed sameLabel same-label-iff good ns) n (cellLabel w field s) n strip (omega arith) in
       let e : length (bs ++ later) ≡ length (blocksBelow w field s) = ap length (whole (bs ++ later) h (u later rest)) in
       omega (arith, length-append bs later)

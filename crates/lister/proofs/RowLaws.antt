@@ -62,7 +62,8 @@ row-with-is row field s e h =
     let two : take (suc (suc (2 * field))) (set (set (drop 2 row) (2 * field) (s .low)) (suc (2 * field)) (s .high))
     ≡ take (suc (2 * field)) (set (drop 2 row) (2 * field) (s .low)) ++ (s .high ∷ []) =
     take-suc-set (set (drop 2 row) (2 * field) (s .low)) (suc (2 * field)) (s .high) (simp length-set (omega arith)) in
-    let moved : drop 2 (set (set row (2 + 2 * field) (s .low)) (2 + suc (2 * field)) (s .high)) ≡ set (set (drop 2 row) (2 * field) (s .low)) (suc (2 * field)) (s .high) =
+    let moved : drop 2 (set (set row (2 + 2 * field) (s .low)) (2 + suc (2 * field)) (s .high))
+    ≡ set (set (drop 2 row) (2 * field) (s .low)) (suc (2 * field)) (s .high) =
     drop-set-add 2 (set row (2 + 2 * field) (s .low)) (suc (2 * field)) (s .high)
     ∙ ap (λ (z : List ℕ). set z (suc (2 * field)) (s .high)) (drop-set-add 2 row (2 * field) (s .low)) in
     record {
@@ -80,11 +81,13 @@ module _ (places : List ℕ) (field : ℕ) (row r : List ℕ) (low high : ℕ) (
   row-widened : (b : Listed Label) → rowOf places (field + 1) (bounds (field + 1) r) b ≡ rowOf places field (bounds field row) (widen low high b)
   unfolding buffers.bounds
   row-widened b =
-      ap (λ (z : List ℕ). kind (b .label) ∷ rule (b .label) ∷ (z ++ buffers.bounds (stretched places (field + 1) (b .block)))) (g .more)
-      ∙ ap (λ (z : List ℕ). kind (b .label) ∷ rule (b .label) ∷ z)
-      (append-assoc (bounds field row) (spanAt places field low high .low ∷ spanAt places field low high .high ∷ []) (buffers.bounds (stretched places (field + 1) (b .block))))
+      let span = spanAt places field low high in
+      let later = buffers.bounds (stretched places (field + 1) (b .block)) in
+      ap (λ (z : List ℕ). kind (b .label) ∷ rule (b .label) ∷ (z ++ later)) (g .more)
+      ∙ ap (λ (z : List ℕ). kind (b .label) ∷ rule (b .label) ∷ z) (append-assoc (bounds field row) (span .low ∷ span .high ∷ []) later)
 
-  pub rows-widened : (bs : List (Listed Label)) → map (rowOf places (field + 1) (bounds (field + 1) r)) bs ≡ map (rowOf places field (bounds field row)) (map (widen low high) bs)
+  pub rows-widened : (bs : List (Listed Label))
+      → map (rowOf places (field + 1) (bounds (field + 1) r)) bs ≡ map (rowOf places field (bounds field row)) (map (widen low high) bs)
   rows-widened [] = refl
   rows-widened (b ∷ bs) =
       ap (λ (z : List ℕ). z ∷ map (rowOf places (field + 1) (bounds (field + 1) r)) bs) (row-widened b)

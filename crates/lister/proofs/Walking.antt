@@ -46,7 +46,8 @@ module _ (w : Chart) (places : List ℕ) (field : ℕ) (s : Left) (row buffer₀
         told = (omega arith, refl);
       }
 
-  module _ (count strip next t : ℕ) (buffer : List ℕ) (z : ToldTo count strip t buffer) (r : RunEnd w field s count strip next) (x : Left) (e : x ≡ step w field s strip) where
+  module _ (count strip next t : ℕ) (buffer : List ℕ) (z : ToldTo count strip t buffer) (r : RunEnd w field s count strip next) (x : Left)
+      (e : x ≡ step w field s strip) where
     -- the blocks of the run
     abbrev run-blocks : List (Listed Label)
     run-blocks = map (widen strip (next - 1)) (blocksBelow w (field + 1) (step w field s strip))
@@ -56,8 +57,9 @@ module _ (w : Chart) (places : List ℕ) (field : ℕ) (s : Left) (row buffer₀
 
     long : length (z .blocks ++ run-blocks) ≡ length (z .blocks) + length (blocksBelow w (field + 1) x)
     long =
-        length-append (z .blocks) run-blocks
-        ∙ ap (λ (n : ℕ). length (z .blocks) + n) (length-map (blocksBelow w (field + 1) (step w field s strip)) (widen strip (next - 1)) ∙ ap (λ (y : Left). length (blocksBelow w (field + 1) y)) (sym e))
+        let widened = length-map (blocksBelow w (field + 1) (step w field s strip)) (widen strip (next - 1)) in
+        let same = ap (λ (y : Left). length (blocksBelow w (field + 1) y)) (sym e) in
+        length-append (z .blocks) run-blocks ∙ ap (λ (n : ℕ). length (z .blocks) + n) (widened ∙ same)
 
     -- their number stays below what the whole stays below
     pub listing-room : (top : ℕ) → total + length (blocksBelow w field s) < top → t + length (blocksBelow w (field + 1) x) < top
@@ -70,6 +72,16 @@ module _ (w : Chart) (places : List ℕ) (field : ℕ) (s : Left) (row buffer₀
         → ToldTo count next t′ buffer′
     listing-more row′ t′ buffer′ g et eb =
         let counted : t ≡ total + length (map rowed (z .blocks)) = z .told .0 ∙ ap (λ (n : ℕ). total + n) (sym (length-map (z .blocks) rowed)) in
+        let widened = rows-widened places field row row′ strip (next - 1) g (blocksBelow w (field + 1) (step w field s strip)) in
+        let run-told : buffer′ ≡ rowsFrom buffer t (map rowed run-blocks) =
+        eb
+        ∙ ap (λ (y : Left). rowsFrom buffer t (map (rowOf places (field + 1) (bounds (field + 1) row′)) (blocksBelow w (field + 1) y))) e
+        ∙ ap (λ (rs : List (List ℕ)). rowsFrom buffer t rs) widened in
+        let all-told : rowsFrom buffer t (map rowed run-blocks) ≡ rowsFrom buffer₀ total (map rowed (z .blocks ++ run-blocks)) =
+        ap (λ (b : List ℕ). rowsFrom b t (map rowed run-blocks)) (z .told .1)
+        ∙ ap (λ (n : ℕ). rowsFrom (rowsFrom buffer₀ total (map rowed (z .blocks))) n (map rowed run-blocks)) counted
+        ∙ sym (rows-append buffer₀ total (map rowed (z .blocks)) (map rowed run-blocks))
+        ∙ ap (λ (rs : List (List ℕ)). rowsFrom buffer₀ total rs) (sym (map-append rowed (z .blocks) run-blocks)) in
         record {
           is-field = z .is-field;
           is-count = z .is-count;
@@ -77,16 +89,7 @@ module _ (w : Chart) (places : List ℕ) (field : ℕ) (s : Left) (row buffer₀
           within = r .within;
           blocks = z .blocks ++ run-blocks;
           upto = on;
-          told = (
-            omega (arith, long, z .told .0),
-            eb
-                ∙ ap (λ (y : Left). rowsFrom buffer t (map (rowOf places (field + 1) (bounds (field + 1) row′)) (blocksBelow w (field + 1) y))) e
-                ∙ ap (λ (rs : List (List ℕ)). rowsFrom buffer t rs) (rows-widened places field row row′ strip (next - 1) g (blocksBelow w (field + 1) (step w field s strip)))
-                ∙ ap (λ (b : List ℕ). rowsFrom b t (map rowed run-blocks)) (z .told .1)
-                ∙ ap (λ (n : ℕ). rowsFrom (rowsFrom buffer₀ total (map rowed (z .blocks))) n (map rowed run-blocks)) counted
-                ∙ sym (rows-append buffer₀ total (map rowed (z .blocks)) (map rowed run-blocks))
-                ∙ ap (λ (rs : List (List ℕ)). rowsFrom buffer₀ total rs) (sym (map-append rowed (z .blocks) run-blocks)),
-          );
+          told = (omega (arith, long, z .told .0), run-told ∙ all-told);
         }
 
   told-as : (bs : List (Listed Label)) (t : ℕ) (buffer : List ℕ) → bs ≡ blocksBelow w field s → Told bs t buffer → Told (blocksBelow w field s) t buffer
@@ -113,7 +116,8 @@ module _ (w : Chart) (places : List ℕ) (field : ℕ) (s : Left) (row buffer₀
 -- the places of a run are as its row needs them
 pub placed-run : (w : Chart) (places : List ℕ) (field : ℕ) (s : Left) (count strip next : ℕ) → Placed (w .counts) places → count ≡ getD (w .counts) field 0
     → RunEnd w field s count strip next
-    → (getD places (fieldPlaces * field + strip) 0 < 2 ^ 32) × (0 < getD places (fieldPlaces * field + next) 0) × (getD places (fieldPlaces * field + next) 0 ≤ 2 ^ 32)
+    → (getD places (fieldPlaces * field + strip) 0 < 2 ^ 32) × (0 < getD places (fieldPlaces * field + next) 0)
+    × (getD places (fieldPlaces * field + next) 0 ≤ 2 ^ 32)
 placed-run w places field s count strip next p e r =
     let last : next - 1 < getD (w .counts) field 0 = omega (arith, r .rises, r .within) in
     let next-is : next - 1 + 1 ≡ next = omega (arith, r .rises) in (

@@ -59,7 +59,8 @@ abbrev after : List ℕ → ℕ → ℕ
 after t at = (at + length (lineAt t at)) + 1
 
 -- what is told of the line's bytes is told of the line
-pub line-told : (s r : RefT (List ℕ)) (at : ℕ) (word : List ℕ) (told : Bool) → seen r ≡ shown s (lineFrom (s .now) at) → told ≡ named word (r .now) → named word (lineAt (s .now) at) ≡ told
+pub line-told : (s r : RefT (List ℕ)) (at : ℕ) (word : List ℕ) (told : Bool)
+    → seen r ≡ shown s (lineFrom (s .now) at) → told ≡ named word (r .now) → named word (lineAt (s .now) at) ≡ told
 line-told s r at word told e f = ap (named word) (sym (shown-bytes s r (lineFrom (s .now) at) e)) ∙ sym f
 
 -- where the search stands: the record wanted is that one, counted from the cursor on
@@ -83,9 +84,9 @@ module _ (word : List ℕ) (some-word : 0 < length word) (t : List ℕ) where
       let here : Piece = record { place = at; bytes = lineAt t at } in
       elim (decLt (at + length (lineAt t at)) (length t)) [
         | yes l ↦
-            ap (recordsAmong word)
-            (pieces-next newline t at end refl h l
-            ∙ ap (λ (x : List ℕ). record { place = at; bytes = x } ∷ piecesFrom (end + 1) (parts newline (drop (end + 1) t))) (sym (part-here newline t at end refl)))
+            let behind = piecesFrom (end + 1) (parts newline (drop (end + 1) t)) in
+            let first = ap (λ (x : List ℕ). record { place = at; bytes = x } ∷ behind) (sym (part-here newline t at end refl)) in
+            ap (recordsAmong word) (pieces-next newline t at end refl h l ∙ first)
         | no l ↦
             let all : lineAt t at ≡ drop at t = ap (λ (ps : List (List ℕ)). getD ps 0 []) (parts-last newline t at end refl (omega arith)) in
             ap (recordsAmong word) (pieces-last newline t at end refl h (omega arith) ∙ ap (λ (x : List ℕ). record { place = at; bytes = x } ∷ []) (sym all))

@@ -1,7 +1,8 @@
 -- What the sizes are for document 01's fields and limits. Assumes nothing.
 use mathlib.Core.Path.{_≡_, refl}
 use Prim.Native.Nat.{_^_}
-use Rattle.meaning.specs.Sizes.{fieldCount, blockBounds, rowNumbers, mostListed, mostBlocks, allBounds, mostStrips, fieldPlaces, allPlaces, fieldMasks, allMasks, frontWords, allWords, unmetRank, goodRank}
+use Rattle.meaning.specs.Sizes.{fieldCount, blockBounds, rowNumbers, mostListed, mostBlocks, allBounds, mostStrips}
+use Rattle.meaning.specs.Sizes.{fieldPlaces, allPlaces, fieldMasks, allMasks, frontWords, allWords, unmetRank, goodRank}
 
 -- they hang together as they should: with four fields, and 64, 32 and 64 records
 pub sizes-agree : (fieldCount ≡ 4) × (blockBounds ≡ 8) × (rowNumbers ≡ 10) × (mostBlocks ≡ 160) × (allBounds ≡ 1280) × (mostStrips ≡ 321)

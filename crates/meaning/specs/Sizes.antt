@@ -57,12 +57,24 @@ fieldMasks = maskKinds * mostStrips
 abbrev pub allMasks : ℕ
 allMasks = fieldMasks * fieldCount
 
--- the words of a walk before those of each directive: which rules accept, which directives do, and the exceptions of those that do and
--- of those that do not
+-- what stands where among the words of a walk: which rules accept; which directives ask for accept; the exceptions of these directives,
+-- and those of the others; and from there on the exceptions of each directive
+abbrev pub acceptingRules : ℕ
+acceptingRules = 0
+
+abbrev pub acceptingDirectives : ℕ
+acceptingDirectives = 1
+
+abbrev pub ofAccepting : ℕ
+ofAccepting = 2
+
+abbrev pub ofDenying : ℕ
+ofDenying = 3
+
 abbrev pub firstOwner : ℕ
 firstOwner = 4
 
--- the words before the masks: behind those, the exceptions of each directive, for as many as a mask has digits
+-- the words before the masks: the exceptions of each directive take as many as a mask has digits
 abbrev pub frontWords : ℕ
 frontWords = firstOwner + maskDigits
 

@@ -36,14 +36,17 @@ first-is sep (x ∷ xs) = go (eqb x sep) (parts sep xs) (some-part sep xs) (firs
     go false (p ∷ ps) h e = ap (λ (r : List ℕ). x ∷ r) e
 
 -- a separator stands after the first part: the parts go on behind it
-cut : (sep : ℕ) (xs : List ℕ) → length (part sep xs 0) < length xs → parts sep xs ≡ take (length (part sep xs 0)) xs ∷ parts sep (drop (suc (length (part sep xs 0))) xs)
+cut : (sep : ℕ) (xs : List ℕ) → length (part sep xs 0) < length xs
+    → parts sep xs ≡ take (length (part sep xs 0)) xs ∷ parts sep (drop (suc (length (part sep xs 0))) xs)
 cut sep [] h = absurd (not-suc-le-zero h)
 cut sep (x ∷ xs) h = go (eqb x sep) (parts sep xs) (some-part sep xs) (cut sep xs) h
   where
     go : (b : Bool) (ps : List (List ℕ)) → 0 < length ps
         → (length (getD ps 0 []) < length xs → ps ≡ take (length (getD ps 0 [])) xs ∷ parts sep (drop (suc (length (getD ps 0 []))) xs))
         → length (getD (cond b ([] ∷ parts sep xs) (onto x ps)) 0 []) < length (x ∷ xs)
-        → cond b ([] ∷ parts sep xs) (onto x ps) ≡ take (length (getD (cond b ([] ∷ parts sep xs) (onto x ps)) 0 [])) (x ∷ xs) ∷ parts sep (drop (suc (length (getD (cond b ([] ∷ parts sep xs) (onto x ps)) 0 []))) (x ∷ xs))
+        → cond b ([] ∷ parts sep xs) (onto x ps)
+        ≡ take (length (getD (cond b ([] ∷ parts sep xs) (onto x ps)) 0 [])) (x ∷ xs)
+        ∷ parts sep (drop (suc (length (getD (cond b ([] ∷ parts sep xs) (onto x ps)) 0 []))) (x ∷ xs))
     go true ps s ih h = refl
     go false [] s ih h = absurd (not-suc-le-zero s)
     go false (p ∷ ps) s ih h = ap (onto x) (ih (le-of-suc-le-suc h))
@@ -117,7 +120,8 @@ module _ (sep : ℕ) (l : List ℕ) (a e : ℕ) (ends : e ≡ a + length (part s
   here-length fits = ap length (sym part-here) ∙ omega arith
 
   -- the parts from a on, with their places
-  pub pieces-next : a ≤ length l → e < length l → piecesFrom a (parts sep (drop a l)) ≡ record { place = a; bytes = take (e - a) (drop a l) } ∷ piecesFrom (e + 1) (parts sep (drop (e + 1) l))
+  pub pieces-next : a ≤ length l → e < length l
+      → piecesFrom a (parts sep (drop a l)) ≡ record { place = a; bytes = take (e - a) (drop a l) } ∷ piecesFrom (e + 1) (parts sep (drop (e + 1) l))
   pieces-next fits h =
       let t = take (e - a) (drop a l) in
       let q : (a + length (take (e - a) (drop a l))) + 1 ≡ e + 1 = omega (arith, here-length fits) in

@@ -27,7 +27,8 @@ in-form rules policy = λ i. orElse (rules-read-in-form rules i) (policy-read-in
 
 module _ (rules policy : List ℕ) {table : RulesRead} (read : table ≡ readRules rules) where
   -- the rules are refused
-  pub rules-refused-put : {before after : List ℕ} {end : ℕ} → ¬ (table .refusal .number ≡ 0) → Put before 0 (refusedLine rulesName (refusalOf (table .refusal))) after end
+  pub rules-refused-put : {before after : List ℕ} {end : ℕ} → ¬ (table .refusal .number ≡ 0)
+      → Put before 0 (refusedLine rulesName (refusalOf (table .refusal))) after end
       → Reported (holding rules) (holding policy) before after end
   rules-refused-put some p =
       let some′ : ¬ (readRules rules .refusal .number ≡ 0) = λ none. some (ap (λ (t : RulesRead). t .refusal .number) read ∙ none) in
@@ -65,7 +66,9 @@ module _ (rules policy : List ℕ) {table : RulesRead} (read : table ≡ readRul
 
     -- both are read, and in form
     pub sets-in-form : InForm (table .rules) (asked .policy)
-    sets-in-form = subst (λ (t : RulesRead). InForm (t .rules) (asked .policy)) (sym read) (subst (λ (t : PolicyRead). InForm (readRules rules .rules) (t .policy)) (sym other) (in-form rules policy))
+    sets-in-form =
+        subst (λ (t : RulesRead). InForm (t .rules) (asked .policy)) (sym read)
+        (subst (λ (t : PolicyRead). InForm (readRules rules .rules) (t .policy)) (sym other) (in-form rules policy))
 
     pub sets-put : {before after : List ℕ} {end : ℕ} → asked .refusal .number ≡ 0 → SetsPut (table .rules) (asked .policy) before after end
         → Reported (holding rules) (holding policy) before after end

@@ -22,7 +22,8 @@ pub unrefused-fits : (t : List ℕ) → refuseText t .number ≡ 0 → length t 
 unfolding refuseText
 unrefused-fits t e = go (ltb mostBytes (length t)) refl (unended t) e
   where
-    go : (a : Bool) → ltb mostBytes (length t) ≡ a → (b : Bool) → cond a (refusal 1 0 0) (cond b (refusal 2 (length (linesOf t)) 0) (refusal 0 0 0)) .number ≡ 0 → length t ≤ mostBytes
+    go : (a : Bool) → ltb mostBytes (length t) ≡ a → (b : Bool)
+        → cond a (refusal 1 0 0) (cond b (refusal 2 (length (linesOf t)) 0) (refusal 0 0 0)) .number ≡ 0 → length t ≤ mostBytes
     go true h b f = absurd (omega arith)
     go false h b f = ltb-false mostBytes (length t) h
 
@@ -54,7 +55,8 @@ module _ {S R : Type 0} (said : S → List ℕ → Said S) (all : S → R) (refu
     empty-last n s l = go (said s l)
       where
         go : (o : Said S) → onSaid o all (λ number field. refused s (refusal number n field))
-            ≡ onSaid o (λ s′. onSaid (said s′ []) all (λ number field. refused s′ (refusal number (suc n) field))) (λ number field. refused s (refusal number n field))
+            ≡ onSaid o (λ s′. onSaid (said s′ []) all (λ number field. refused s′ (refusal number (suc n) field)))
+            (λ number field. refused s (refusal number n field))
         go (goes s′) = simp (nothing s′)
         go (stops k f) = refl
 
@@ -93,22 +95,26 @@ module _ {S R : Type 0} (said : S → List ℕ → Said S) (all : S → R) (refu
       halted inside k f e = h .rest-is ∙ line-first t at line s (omega arith) ∙ simp e
 
       -- the same with cursors, in a text that is not too long
-      pub stepped : length t ≤ mostBytes → at < length t → (c′ : Cursor) → c′ ≡ cursorAfter t (record { at = at; line = line }) → (s′ : S) → said s (lineAt t at) ≡ goes s′ → Reading first t (c′ .at) (c′ .line) s′
+      pub stepped : length t ≤ mostBytes → at < length t
+          → (c′ : Cursor) → c′ ≡ cursorAfter t (record { at = at; line = line })
+          → (s′ : S) → said s (lineAt t at) ≡ goes s′ → Reading first t (c′ .at) (c′ .line) s′
       stepped fits inside c′ moved s′ e =
-          subst (λ (c : Cursor). Reading first t (c .at) (c .line) s′) (sym (moved ∙ cursor-after t (record { at = at; line = line }) (omega arith) (omega (arith, h .line-le))))
-          (turned inside s′ e)
+          let moves = moved ∙ cursor-after t (record { at = at; line = line }) (omega arith) (omega (arith, h .line-le)) in
+          subst (λ (c : Cursor). Reading first t (c .at) (c .line) s′) (sym moves) (turned inside s′ e)
 
       pub finished : length t ≤ at → from 1 first (linesOf t) ≡ all s
       finished out = h .rest-is ∙ ap (from line s) (at-end newline t at out) ∙ simp (nothing s)
 
   -- what each line keeps, and every answer has, the answer to the text has
   module _ (Kept : S → Type 0) (Has : R → Type 0) where
-    module _ (keep : (s : S) (l : List ℕ) → Kept s → Keeps Kept (said s l)) (done : (s : S) → Kept s → Has (all s)) (stopped : (s : S) (r : Refusal) → Has (refused s r)) where
+    module _ (keep : (s : S) (l : List ℕ) → Kept s → Keeps Kept (said s l))
+        (done : (s : S) → Kept s → Has (all s)) (stopped : (s : S) (r : Refusal) → Has (refused s r)) where
       kept-from : (n : ℕ) (s : S) (ls : List (List ℕ)) → Kept s → Has (from n s ls)
       kept-from n s [] h = done s h
       kept-from n s (l ∷ ls) h = go (λ s′ k. kept-from (suc n) s′ ls k) (said s l) (keep s l h)
         where
-          go : ((s′ : S) → Kept s′ → Has (from (suc n) s′ ls)) → (o : Said S) → Keeps Kept o → Has (onSaid o (λ s′. from (suc n) s′ ls) (λ number field. refused s (refusal number n field)))
+          go : ((s′ : S) → Kept s′ → Has (from (suc n) s′ ls)) → (o : Said S) → Keeps Kept o
+              → Has (onSaid o (λ s′. from (suc n) s′ ls) (λ number field. refused s (refusal number n field)))
           go rest (goes s′) k = rest s′ k
           go rest (stops number field) k = stopped s (refusal number n field)
 

@@ -20,7 +20,8 @@ rem-if1 c = omega (arith, pow-pos (32 - c .before .args .length), c .size .ensur
 
 add-high : tie.Need-add-high
 add-high c =
-    let most : sizeOf (c .before .before .args .length) ≤ 2 ^ 32 = pow-mono {i = 32 - c .before .before .args .length} {j = 32} (omega arith) in
+    let length = c .before .before .args .length in
+    let most : sizeOf length ≤ 2 ^ 32 = pow-mono {i = 32 - length} {j = 32} (omega arith) in
     omega (arith, most, c .before .size .ensures)
 
 sub-high : tie.Need-sub-high
@@ -28,19 +29,29 @@ sub-high c = omega (arith, pow-pos (32 - c .before .before .args .length), c .be
 
 cast-t10 : tie.Need-cast-t10
 cast-t10 c =
-    let whole : c .before .before .args .address % sizeOf (c .before .before .args .length) ≡ 0 = ap (λ (n : ℕ). c .before .before .args .address % n) (sym (c .before .size .ensures)) ∙ c .if1 .taken in
-    omega (arith, prefix-fits (c .before .before .args .address) (c .before .before .args .length) (omega arith) (omega arith) whole, c .before .size .ensures, pow-pos (32 - c .before .before .args .length))
+    let sized = c .before in
+    let args = sized .before .args in
+    let at-size = sized .size .ensures in
+    let whole : args .address % sizeOf (args .length) ≡ 0 = ap (λ (n : ℕ). args .address % n) (sym at-size) ∙ c .if1 .taken in
+    let fits = prefix-fits (args .address) (args .length) (omega arith) (omega arith) whole in
+    omega (arith, fits, at-size, pow-pos (32 - args .length))
 
 returns : tie.Need-returns
 unfolding prefixOf
 returns c =
-    let whole : c .before .before .args .address % sizeOf (c .before .before .args .length) ≡ 0 = ap (λ (n : ℕ). c .before .before .args .address % n) (sym (c .before .size .ensures)) ∙ c .if1 .taken in
-    simp (eq-eqb _ 0 whole) (ap (λ (n : ℕ). Are (span (c .before .before .args .address) (c .before .before .args .address + n - 1))) (c .before .size .ensures))
+    let sized = c .before in
+    let args = sized .before .args in
+    let at-size = sized .size .ensures in
+    let whole : args .address % sizeOf (args .length) ≡ 0 = ap (λ (n : ℕ). args .address % n) (sym at-size) ∙ c .if1 .taken in
+    simp (eq-eqb _ 0 whole) (ap (λ (n : ℕ). Are (span (args .address) (args .address + n - 1))) at-size)
 
 returns-2 : tie.Need-returns-2
 unfolding prefixOf
 returns-2 c =
-    simp (ne-eqb (c .before .before .args .address % sizeOf (c .before .before .args .length)) 0 (λ e. c .if1 .left (ap (λ (n : ℕ). c .before .before .args .address % n) (c .before .size .ensures) ∙ e)))
+    let sized = c .before in
+    let args = sized .before .args in
+    let rest = ap (λ (n : ℕ). args .address % n) (sized .size .ensures) in
+    simp (ne-eqb (args .address % sizeOf (args .length)) 0 (λ e. c .if1 .left (rest ∙ e)))
 
 pub prefix-spec : {M : Type 1} → statement M
 prefix-spec =

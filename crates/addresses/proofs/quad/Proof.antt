@@ -24,7 +24,10 @@ enum-told c = search needs
 
 returns : tie.Need-returns
 unfolding quadOf
-returns c = simp (eq-eqb _ 4 (sym (c .before .before .before .before .count .ensures) ∙ c .before .before .before .if1 .taken), sym (c .before .before .decimal-part .ensures) ∙ c .enum-told .given .1)
+returns c =
+    let first = c .before .before in
+    let asked = first .before in
+    simp (eq-eqb _ 4 (sym (asked .before .count .ensures) ∙ asked .if1 .taken), sym (first .decimal-part .ensures) ∙ c .enum-told .given .1)
 
 decimal-part-requires-2 : tie.Need-decimal-part-requires-2
 decimal-part-requires-2 c κs = search needs
@@ -38,10 +41,14 @@ enum-told-2 c = search needs
 returns-2 : tie.Need-returns-2
 unfolding quadOf
 returns-2 c =
+    let second = c .before .before in
+    let a-known = second .before .before in
+    let first = a-known .before .before in
+    let asked = first .before in
     simp (
-      eq-eqb _ 4 (sym (c .before .before .before .before .before .before .before .before .count .ensures) ∙ c .before .before .before .before .before .before .before .if1 .taken),
-      sym (c .before .before .before .before .before .before .decimal-part .ensures) ∙ c .before .before .before .before .a .given .1,
-      sym (c .before .before .decimal-part2 .ensures) ∙ c .enum-told2 .given .1,
+      eq-eqb _ 4 (sym (asked .before .count .ensures) ∙ asked .if1 .taken),
+      sym (first .decimal-part .ensures) ∙ a-known .a .given .1,
+      sym (second .decimal-part2 .ensures) ∙ c .enum-told2 .given .1,
     )
 
 decimal-part-requires-3 : tie.Need-decimal-part-requires-3
@@ -56,11 +63,17 @@ enum-told-3 c = search needs
 returns-3 : tie.Need-returns-3
 unfolding quadOf
 returns-3 c =
+    let third = c .before .before in
+    let b-known = third .before .before in
+    let second = b-known .before .before in
+    let a-known = second .before .before in
+    let first = a-known .before .before in
+    let asked = first .before in
     simp (
-      eq-eqb _ 4 (sym (c .before .before .before .before .before .before .before .before .before .before .before .before .count .ensures) ∙ c .before .before .before .before .before .before .before .before .before .before .before .if1 .taken),
-      sym (c .before .before .before .before .before .before .before .before .before .before .decimal-part .ensures) ∙ c .before .before .before .before .before .before .before .before .a .given .1,
-      sym (c .before .before .before .before .before .before .decimal-part2 .ensures) ∙ c .before .before .before .before .b .given .1,
-      sym (c .before .before .decimal-part3 .ensures) ∙ c .enum-told3 .given .1,
+      eq-eqb _ 4 (sym (asked .before .count .ensures) ∙ asked .if1 .taken),
+      sym (first .decimal-part .ensures) ∙ a-known .a .given .1,
+      sym (second .decimal-part2 .ensures) ∙ b-known .b .given .1,
+      sym (third .decimal-part3 .ensures) ∙ c .enum-told3 .given .1,
     )
 
 decimal-part-requires-4 : tie.Need-decimal-part-requires-4
@@ -75,32 +88,57 @@ enum-told-4 c = search needs
 returns-4 : tie.Need-returns-4
 unfolding quadOf
 returns-4 c =
+    let fourth = c .before .before in
+    let c-known = fourth .before .before in
+    let third = c-known .before .before in
+    let b-known = third .before .before in
+    let second = b-known .before .before in
+    let a-known = second .before .before in
+    let first = a-known .before .before in
+    let asked = first .before in
     simp (
-      eq-eqb _ 4 (sym (c .before .before .before .before .before .before .before .before .before .before .before .before .before .before .before .before .count .ensures) ∙ c .before .before .before .before .before .before .before .before .before .before .before .before .before .before .before .if1 .taken),
-      sym (c .before .before .before .before .before .before .before .before .before .before .before .before .before .before .decimal-part .ensures) ∙ c .before .before .before .before .before .before .before .before .before .before .before .before .a .given .1,
-      sym (c .before .before .before .before .before .before .before .before .before .before .decimal-part2 .ensures) ∙ c .before .before .before .before .before .before .before .before .b .given .1,
-      sym (c .before .before .before .before .before .before .decimal-part3 .ensures) ∙ c .before .before .before .before .c .given .1,
-      sym (c .before .before .decimal-part4 .ensures) ∙ c .enum-told4 .given .1,
+      eq-eqb _ 4 (sym (asked .before .count .ensures) ∙ asked .if1 .taken),
+      sym (first .decimal-part .ensures) ∙ a-known .a .given .1,
+      sym (second .decimal-part2 .ensures) ∙ b-known .b .given .1,
+      sym (third .decimal-part3 .ensures) ∙ c-known .c .given .1,
+      sym (fourth .decimal-part4 .ensures) ∙ c .enum-told4 .given .1,
     )
 
 join-requires : tie.Need-join-requires
 join-requires c κs =
-    let text = c .before .before .before .before .before .before .before .before .before .before .before .before .before .before .before .before .before .before .before .args .text .now in (
-      decimal-le 255 (part dot text 0) _ (sym (c .before .before .before .before .before .before .before .before .before .before .before .before .before .before .before .decimal-part .ensures) ∙ c .before .before .before .before .before .before .before .before .before .before .before .before .before .a .given .1),
-      decimal-le 255 (part dot text 1) _ (sym (c .before .before .before .before .before .before .before .before .before .before .before .decimal-part2 .ensures) ∙ c .before .before .before .before .before .before .before .before .before .b .given .1),
-      decimal-le 255 (part dot text 2) _ (sym (c .before .before .before .before .before .before .before .decimal-part3 .ensures) ∙ c .before .before .before .before .before .c .given .1),
-      decimal-le 255 (part dot text 3) _ (sym (c .before .before .before .decimal-part4 .ensures) ∙ c .before .d .given .1),
+    let d-known = c .before in
+    let fourth = d-known .before .before in
+    let c-known = fourth .before .before in
+    let third = c-known .before .before in
+    let b-known = third .before .before in
+    let second = b-known .before .before in
+    let a-known = second .before .before in
+    let first = a-known .before .before in
+    let text = first .before .before .before .before .args .text .now in (
+      decimal-le 255 (part dot text 0) _ (sym (first .decimal-part .ensures) ∙ a-known .a .given .1),
+      decimal-le 255 (part dot text 1) _ (sym (second .decimal-part2 .ensures) ∙ b-known .b .given .1),
+      decimal-le 255 (part dot text 2) _ (sym (third .decimal-part3 .ensures) ∙ c-known .c .given .1),
+      decimal-le 255 (part dot text 3) _ (sym (fourth .decimal-part4 .ensures) ∙ d-known .d .given .1),
     )
 
 returns-5 : tie.Need-returns-5
 unfolding quadOf
 returns-5 c =
+    let d-known = c .before .before in
+    let fourth = d-known .before .before in
+    let c-known = fourth .before .before in
+    let third = c-known .before .before in
+    let b-known = third .before .before in
+    let second = b-known .before .before in
+    let a-known = second .before .before in
+    let first = a-known .before .before in
+    let asked = first .before in
     simp (
-      eq-eqb _ 4 (sym (c .before .before .before .before .before .before .before .before .before .before .before .before .before .before .before .before .before .before .count .ensures) ∙ c .before .before .before .before .before .before .before .before .before .before .before .before .before .before .before .before .before .if1 .taken),
-      sym (c .before .before .before .before .before .before .before .before .before .before .before .before .before .before .before .before .decimal-part .ensures) ∙ c .before .before .before .before .before .before .before .before .before .before .before .before .before .before .a .given .1,
-      sym (c .before .before .before .before .before .before .before .before .before .before .before .before .decimal-part2 .ensures) ∙ c .before .before .before .before .before .before .before .before .before .before .b .given .1,
-      sym (c .before .before .before .before .before .before .before .before .decimal-part3 .ensures) ∙ c .before .before .before .before .before .before .c .given .1,
-      sym (c .before .before .before .before .decimal-part4 .ensures) ∙ c .before .before .d .given .1,
+      eq-eqb _ 4 (sym (asked .before .count .ensures) ∙ asked .if1 .taken),
+      sym (first .decimal-part .ensures) ∙ a-known .a .given .1,
+      sym (second .decimal-part2 .ensures) ∙ b-known .b .given .1,
+      sym (third .decimal-part3 .ensures) ∙ c-known .c .given .1,
+      sym (fourth .decimal-part4 .ensures) ∙ d-known .d .given .1,
     ) (ap Is (c .join .ensures))
 
 returns-6 : tie.Need-returns-6

@@ -13,7 +13,10 @@ enum-known-length : tie.Need-enum-known-length
 enum-known-length c = search needs
 
 prefix-requires : tie.Need-prefix-requires
-prefix-requires c κs = decimal-le 32 (c .before .before .before .before .before .args .text .now) _ (sym (c .before .before .before .decimal .ensures) ∙ c .before .length .given .1)
+prefix-requires c κs =
+    let known = c .before in
+    let read = known .before .before in
+    decimal-le 32 (read .before .before .args .text .now) _ (sym (read .decimal .ensures) ∙ known .length .given .1)
 
 enum-told : tie.Need-enum-told
 enum-told c = search needs
@@ -32,15 +35,32 @@ enum-told-2 c = search needs
 
 returns : tie.Need-returns
 unfolding sizedBy
-returns c = simp (sym (c .before .before .before .before .decimal .ensures) ∙ c .before .before .length .given .1) (c .prefix .ensures)
+returns c =
+    let known = c .before .before in
+    simp (sym (known .before .before .decimal .ensures) ∙ known .length .given .1) (c .prefix .ensures)
 
 returns-2 : tie.Need-returns-2
 unfolding sizedBy
-returns-2 c = simp (sym (c .before .before .before .before .before .before .before .decimal .ensures) ∙ c .before .before .before .before .before .enum-told .given .1, sym (c .before .before .before .before .quad .ensures) ∙ c .before .before .mask .given .1) (c .masked .ensures)
+returns-2 c =
+    let known = c .before .before in
+    let quad-read = known .before .before in
+    let unread = quad-read .before in
+    let length-read = unread .before .before in
+    simp (
+      sym (length-read .decimal .ensures) ∙ unread .enum-told .given .1,
+      sym (quad-read .quad .ensures) ∙ known .mask .given .1,
+    ) (c .masked .ensures)
 
 returns-3 : tie.Need-returns-3
 unfolding sizedBy
-returns-3 c = simp (sym (c .before .before .before .before .before .decimal .ensures) ∙ c .before .before .before .enum-told .given .1, sym (c .before .before .quad .ensures) ∙ c .enum-told2 .given .1)
+returns-3 c =
+    let quad-read = c .before .before in
+    let unread = quad-read .before in
+    let length-read = unread .before .before in
+    simp (
+      sym (length-read .decimal .ensures) ∙ unread .enum-told .given .1,
+      sym (quad-read .quad .ensures) ∙ c .enum-told2 .given .1,
+    )
 
 pub sized-spec : {M : Type 1} → statement M
 sized-spec =

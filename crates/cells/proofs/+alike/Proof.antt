@@ -79,7 +79,10 @@ alike-shared-slice-read-end : (t : ℕ) → alike-lts.Need-shared-slice-read-end
 alike-shared-slice-read-end t c = search needs
 
 alike-loop-holds : (t : ℕ) → alike-lts.Need-loop-holds (claims t) (alike-at t) alike.Post alike-Inv-loop alike-μ-loop
-alike-loop-holds t c = compared-start _ _ _ _ _ _ (c .before .before .before .before .before .before .before .before .pre .1 .1) (omega (arith, c .before .before .before .before .before .before .before .before .pre .1 .0, c .before .if3 .left)) refl
+alike-loop-holds t c =
+    let entry = c .before .before .before .before .before .before .before .before in
+    let p = entry .pre .1 in
+    compared-start _ _ _ _ _ _ (p .1) (omega (arith, p .0, c .before .if3 .left)) refl
 
 alike-left-at-requires : (t : ℕ) → alike-lts.Need-left-at-requires (claims t) (alike-at t) alike.Post alike-Inv-loop alike-μ-loop
 alike-left-at-requires t c κs = search needs
@@ -94,28 +97,48 @@ alike-same-pair-requires : (t : ℕ) → alike-lts.Need-same-pair-requires (clai
 alike-same-pair-requires t c κs = search needs
 
 alike-add-alike : (t : ℕ) → alike-lts.Need-add-alike (claims t) (alike-at t) alike.Post alike-Inv-loop alike-μ-loop
-alike-add-alike t c = omega (arith, c .before .before .before .before .before .before .before .before .before .before .before .before .before .before .good .1 .1 .1 .1 .0 .0, c .before .before .before .before .before .before .before .before .before .before .before .before .before .before .pre .1 .0, c .before .before .before .before .before .before .before .if3 .left)
+alike-add-alike t c =
+    let not-last = c .before .before .before .before .before .before .before in
+    let entry = not-last .before .before .before .before .before .before .before in
+    omega (arith, entry .good .1 .1 .1 .1 .0 .0, entry .pre .1 .0, not-last .if3 .left)
 
 alike-alike-requires : (t : ℕ) → alike-lts.Need-alike-requires (claims t) (alike-at t) alike.Post alike-Inv-loop alike-μ-loop
-alike-alike-requires t c κs = (omega (arith, c .before .before .before .before .before .before .before .before .before .before .before .before .before .before .pre .0, c .before .before .before .before .before .before .before .before .before .before .before .before .before .before .pre .1 .0, c .before .before .before .before .before .before .before .if3 .left), (omega (arith, c .before .before .before .before .before .before .before .before .before .before .before .before .before .before .pre .1 .0, c .before .before .before .before .before .before .before .if3 .left), c .before .before .before .before .before .before .before .before .before .before .before .before .before .before .pre .1 .1))
+alike-alike-requires t c κs =
+    let not-last = c .before .before .before .before .before .before .before in
+    let entry = not-last .before .before .before .before .before .before .before in
+    let p = entry .pre in
+    (omega (arith, p .0, p .1 .0, not-last .if3 .left), (omega (arith, p .1 .0, not-last .if3 .left), p .1 .1))
 
 alike-returns-4 : (t : ℕ) → alike-lts.Need-returns-4 (claims t) (alike-at t) alike.Post alike-Inv-loop alike-μ-loop
 alike-returns-4 t c =
-    compared-stop _ _ _ _ _ _ _ _ (c .before .before .before .before .before .before .before .loop .inv) _ _ (c .before .before .before .before .before .before .loop-test .taken) (c .before .before .before .before .before .left-at .ensures) (c .before .before .before .before .left-at2 .ensures) (told-false (not-true (c .before .alike .result) (c .if5 .taken)) (c .before .alike .ensures))
+    let differ = told-false (not-true (c .before .alike .result) (c .if5 .taken)) (c .before .alike .ensures) in
+    let both-stepped = c .before .before .before .before in
+    let stepped = both-stepped .before in
+    let tested = stepped .before in
+    compared-stop _ _ _ _ _ _ _ _ (tested .before .loop .inv) _ _ (tested .loop-test .taken) (stepped .left-at .ensures) (both-stepped .left-at2 .ensures)
+    differ
 
 alike-loop-less : (t : ℕ) → alike-lts.Need-loop-less (claims t) (alike-at t) alike.Post alike-Inv-loop alike-μ-loop
 alike-loop-less t c = search needs
 
 alike-loop-again : (t : ℕ) → alike-lts.Need-loop-again (claims t) (alike-at t) alike.Post alike-Inv-loop alike-μ-loop
 alike-loop-again t c =
-    compared-more _ _ _ _ _ _ _ _ (c .before .before .before .before .before .before .before .loop .inv) _ _ (c .before .before .before .before .before .before .loop-test .taken) (c .before .before .before .before .before .left-at .ensures) (c .before .before .before .before .left-at2 .ensures) (told-true (not-false (c .before .alike .result) (c .if5 .left)) (c .before .alike .ensures))
+    let same = told-true (not-false (c .before .alike .result) (c .if5 .left)) (c .before .alike .ensures) in
+    let both-stepped = c .before .before .before .before in
+    let stepped = both-stepped .before in
+    let tested = stepped .before in
+    compared-more _ _ _ _ _ _ _ _ (tested .before .loop .inv) _ _ (tested .loop-test .taken) (stepped .left-at .ensures) (both-stepped .left-at2 .ensures) same
 
 alike-loop-less-2 : (t : ℕ) → alike-lts.Need-loop-less-2 (claims t) (alike-at t) alike.Post alike-Inv-loop alike-μ-loop
 alike-loop-less-2 t c = search needs
 
 alike-loop-again-2 : (t : ℕ) → alike-lts.Need-loop-again-2 (claims t) (alike-at t) alike.Post alike-Inv-loop alike-μ-loop
 alike-loop-again-2 t c =
-    compared-skip _ _ _ _ _ _ _ _ (c .before .before .before .before .before .loop .inv) _ _ (c .before .before .before .before .loop-test .taken) (c .before .before .before .left-at .ensures) (c .before .before .left-at2 .ensures) (told-true (not-false (c .before .same-pair .result) (c .if4 .left)) (c .before .same-pair .ensures))
+    let same = told-true (not-false (c .before .same-pair .result) (c .if4 .left)) (c .before .same-pair .ensures) in
+    let both-stepped = c .before .before in
+    let stepped = both-stepped .before in
+    let tested = stepped .before in
+    compared-skip _ _ _ _ _ _ _ _ (tested .before .loop .inv) _ _ (tested .loop-test .taken) (stepped .left-at .ensures) (both-stepped .left-at2 .ensures) same
 
 alike-returns-5 : (t : ℕ) → alike-lts.Need-returns-5 (claims t) (alike-at t) alike.Post alike-Inv-loop alike-μ-loop
 alike-returns-5 t c = compared-end _ _ _ _ _ _ _ _ (c .before .loop .inv) (c .loop-test .left)

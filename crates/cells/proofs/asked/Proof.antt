@@ -15,31 +15,51 @@ returns : tie.Need-returns Inv-loop μ-loop
 returns c = asked-by-exception _ _ _ _ (c .if1 .taken)
 
 loop-holds : tie.Need-loop-holds Inv-loop μ-loop
-loop-holds c = freeing-start _ _ _ _ (c .before .before .fits .own .fits) (c .if1 .left)
+loop-holds c =
+    let entry = c .before .before in
+    freeing-start _ _ _ _ (entry .fits .own .fits) (c .if1 .left)
 
 wide-requires : tie.Need-wide-requires Inv-loop μ-loop
 wide-requires c κs = search needs
 
 add-if2 : tie.Need-add-if2 Inv-loop μ-loop
-add-if2 c = omega (arith, freeing-within _ _ _ _ _ (c .before .before .loop .inv) _ (c .wide .ensures) (c .before .loop-test .taken))
+add-if2 c =
+    let tested = c .before in
+    omega (arith, freeing-within _ _ _ _ _ (tested .before .loop .inv) _ (c .wide .ensures) (tested .loop-test .taken))
 
 mul-if2 : tie.Need-mul-if2 Inv-loop μ-loop
-mul-if2 c = omega (arith, freeing-within _ _ _ _ _ (c .before .before .loop .inv) _ (c .wide .ensures) (c .before .loop-test .taken))
+mul-if2 c =
+    let tested = c .before in
+    omega (arith, freeing-within _ _ _ _ _ (tested .before .loop .inv) _ (c .wide .ensures) (tested .loop-test .taken))
 
 shared-slice-read-if2 : tie.Need-shared-slice-read-if2 Inv-loop μ-loop
-shared-slice-read-if2 c = omega (arith, c .before .before .before .before .before .before .pre, freeing-within _ _ _ _ _ (c .before .before .before .loop .inv) _ (c .before .wide .ensures) (c .before .before .loop-test .taken))
+shared-slice-read-if2 c =
+    let lowest = c .before in
+    let tested = lowest .before in
+    let walk = tested .before in
+    let entry = walk .before .before .before in
+    omega (arith, entry .pre, freeing-within _ _ _ _ _ (walk .loop .inv) _ (lowest .wide .ensures) (tested .loop-test .taken))
 
 returns-2 : tie.Need-returns-2 Inv-loop μ-loop
-returns-2 c = freeing-found _ _ _ _ _ (c .before .before .before .before .loop .inv) _ (c .before .before .wide .ensures) (c .before .before .before .loop-test .taken) (c .if2 .taken)
+returns-2 c =
+    let lowest = c .before .before in
+    let tested = lowest .before in
+    freeing-found _ _ _ _ _ (tested .before .loop .inv) _ (lowest .wide .ensures) (tested .loop-test .taken) (c .if2 .taken)
 
 sub-rest : tie.Need-sub-rest Inv-loop μ-loop
 sub-rest c = search needs
 
 loop-less : tie.Need-loop-less Inv-loop μ-loop
-loop-less c = freeing-less _ _ _ _ _ (c .before .before .before .before .loop .inv) _ (c .before .before .wide .ensures) (c .before .before .before .loop-test .taken)
+loop-less c =
+    let lowest = c .before .before in
+    let tested = lowest .before in
+    freeing-less _ _ _ _ _ (tested .before .loop .inv) _ (lowest .wide .ensures) (tested .loop-test .taken)
 
 loop-again : tie.Need-loop-again Inv-loop μ-loop
-loop-again c = freeing-more _ _ _ _ _ (c .before .before .before .before .loop .inv) _ (c .before .before .wide .ensures) (c .before .before .before .loop-test .taken) (c .if2 .left)
+loop-again c =
+    let lowest = c .before .before in
+    let tested = lowest .before in
+    freeing-more _ _ _ _ _ (tested .before .loop .inv) _ (lowest .wide .ensures) (tested .loop-test .taken) (c .if2 .left)
 
 returns-3 : tie.Need-returns-3 Inv-loop μ-loop
 returns-3 c = freeing-end _ _ _ _ _ (c .before .loop .inv) (c .loop-test .left)

@@ -43,17 +43,20 @@ same-length-3 c = search needs
 
 returns : tie.Need-returns
 returns c =
-    let front-put = c .before .before .before .before .before .before .before .before .before .before .before .before .before .put-front in
-    let fields-put = c .before .before .before .before .before .before .chart-fields in
-    let long = c .before .before .before .before .before .before .before .before .before .before .before .before .before .before .before .before .before .before .before .before .before .pre .1 .0 in
-    let same-long = c .before .before .before .before .before .before .before .before .before .before .before .before .words .given in
-    let blocks-put = c .before .before .before .before .before .before .before .before .before .before .before .before .before .before .before .before .put-blocks in
+    let charted = c .before .before .before .before .before .before in
+    let words-back = charted .before .before .before .before .before .before in
+    let fronted = words-back .before in
+    let numbered = fronted .before .before .before in
+    let entry = numbered .before .before .before .before .before in
+    let blocks-put = numbered .put-blocks in
+    let front-put = fronted .put-front in
+    let fields-put = charted .chart-fields in
     record {
       counted = blocks-put .ensures .0;
       numbers = _;
       numbered = blocks-put .ensures .1;
       front = take frontWords (front-put .last .1 .1 .0);
-      front-long = length-take-le frontWords (front-put .last .1 .1 .0) (omega (arith, long, same-long));
+      front-long = length-take-le frontWords (front-put .last .1 .1 .0) (omega (arith, entry .pre .1 .0, words-back .words .given));
       masks = fields-put .last .1 .1 .1 .1 .0;
       words-are = all-behind (front-put .last .1 .1 .0) (fields-put .last .1 .1 .1 .1 .0) frontWords;
       front-words = front-put .ensures;

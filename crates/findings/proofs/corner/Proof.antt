@@ -28,13 +28,16 @@ mul-place : tie.Need-mul-place Inv-loop μ-loop
 mul-place c = omega (arith, c .loop-test .taken)
 
 add-place : tie.Need-add-place Inv-loop μ-loop
-add-place c = omega (arith, c .loop-test .taken, c .before .before .before .pre .1 .strip _ (c .loop-test .taken))
+add-place c = let placed = c .before .before .before .pre .1 in omega (arith, c .loop-test .taken, placed .strip _ (c .loop-test .taken))
 
 mul-place-2 : tie.Need-mul-place-2 Inv-loop μ-loop
-mul-place-2 c = omega (arith, c .loop-test .taken, c .before .before .before .pre .1 .strip _ (c .loop-test .taken))
+mul-place-2 c = let placed = c .before .before .before .pre .1 in omega (arith, c .loop-test .taken, placed .strip _ (c .loop-test .taken))
 
 shared-slice-read-place : tie.Need-shared-slice-read-place Inv-loop μ-loop
-shared-slice-read-place c = omega (arith, c .before .loop-test .taken, c .before .before .before .before .pre .0, c .before .before .before .before .pre .1 .strip _ (c .before .loop-test .taken))
+shared-slice-read-place c =
+    let below = c .before .loop-test .taken in
+    let pre = c .before .before .before .before .pre in
+    omega (arith, below, pre .0, pre .1 .strip _ below)
 
 cast-numbers : tie.Need-cast-numbers Inv-loop μ-loop
 cast-numbers c = omega (arith, c .before .before .before .before .pre .1 .place _ (c .before .loop-test .taken))

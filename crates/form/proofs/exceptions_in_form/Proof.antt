@@ -37,18 +37,20 @@ cast-named c = search needs
 returns : tie.Need-returns Inv-loop μ-loop
 unfolding numbered
 returns c =
-    let policy = c .before .before .before .before .before .args .t1 in
+    let begun = c .before .before .before .before in
+    let policy = begun .before .args .t1 in
     let full : length (policy .exceptions) ≡ mostExceptions = search (needs, length-of-map) in
-    sym (c .before .before .before .before .loop .inv ∙ naming-none policy (c .before .before .before .before .loop .i) (c .before .before .before .before .loop .before) (omega arith) (omega arith) (ap (numbered (directivesOf policy)) (c .if1 .taken)))
+    let zero = ap (numbered (directivesOf policy)) (c .if1 .taken) in
+    sym (begun .loop .inv ∙ naming-none policy (begun .loop .i) (begun .loop .before) (omega arith) (omega arith) zero)
 
 returns-2 : tie.Need-returns-2 Inv-loop μ-loop
 returns-2 c =
-    let policy = c .before .before .before .before .before .before .args .t1 in
+    let begun = c .before .before .before .before .before in
+    let policy = begun .before .args .t1 in
     let full : length (policy .exceptions) ≡ mostExceptions = search (needs, length-of-map) in
-    sym
-    (c .before .before .before .before .before .loop .inv
-    ∙ naming-none policy (c .before .before .before .before .before .loop .i) (c .before .before .before .before .before .loop .before) (omega arith) (omega arith)
-    (past-number directiveOf (policy .directives) (policy .«directive_count») (getD (policy .exceptions) (c .before .before .before .before .before .loop .i) zeroException .directive) (omega arith)))
+    let named = getD (policy .exceptions) (begun .loop .i) zeroException .directive in
+    let past = past-number directiveOf (policy .directives) (policy .«directive_count») named (omega arith) in
+    sym (begun .loop .inv ∙ naming-none policy (begun .loop .i) (begun .loop .before) (omega arith) (omega arith) past)
 
 sub-directive : tie.Need-sub-directive Inv-loop μ-loop
 sub-directive c = search needs
@@ -70,26 +72,35 @@ loop-less c = search needs
 
 loop-again : tie.Need-loop-again Inv-loop μ-loop
 loop-again c =
-    let policy = c .before .before .before .before .before .before .before .before .before .args .t1 in
+    let tested = c .before in
+    let begun = tested .before .before .before .before .before .before .before in
+    let policy = begun .before .args .t1 in
     let full : length (policy .exceptions) ≡ mostExceptions = search (needs, length-of-map) in
     let all : length (policy .directives) ≡ mostDirectives = search (needs, length-of-map) in
-    c .before .before .before .before .before .before .before .before .loop .inv ∙ in-form-beside policy (c .before .before .before .before .before .before .before .before .loop .i) (c .before .before .before .before .before .before .before .before .loop .before) (omega arith) (omega arith) (omega arith) (omega arith) (omega arith) (sym (c .before .exception-in-form .ensures) ∙ c .if3 .taken)
+    let here = sym (tested .exception-in-form .ensures) ∙ c .if3 .taken in
+    begun .loop .inv
+    ∙ in-form-beside policy (begun .loop .i) (begun .loop .before) (omega arith) (omega arith) (omega arith) (omega arith) (omega arith) here
 
 returns-3 : tie.Need-returns-3 Inv-loop μ-loop
 returns-3 c =
-    let policy = c .before .before .before .before .before .before .before .before .before .args .t1 in
+    let tested = c .before in
+    let begun = tested .before .before .before .before .before .before .before in
+    let policy = begun .before .args .t1 in
     let full : length (policy .exceptions) ≡ mostExceptions = search (needs, length-of-map) in
     let all : length (policy .directives) ≡ mostDirectives = search (needs, length-of-map) in
-    sym (c .before .before .before .before .before .before .before .before .loop .inv ∙ out-of-form-beside policy (c .before .before .before .before .before .before .before .before .loop .i) (c .before .before .before .before .before .before .before .before .loop .before) (omega arith) (omega arith) (omega arith) (omega arith) (omega arith) (sym (c .before .exception-in-form .ensures) ∙ c .if3 .left))
+    let here = sym (tested .exception-in-form .ensures) ∙ c .if3 .left in
+    sym
+    (begun .loop .inv
+    ∙ out-of-form-beside policy (begun .loop .i) (begun .loop .before) (omega arith) (omega arith) (omega arith) (omega arith) (omega arith) here)
 
 returns-4 : tie.Need-returns-4 Inv-loop μ-loop
 unfolding exceptionsInForm
 returns-4 c =
-    let policy = c .before .before .args .t1 in
+    let ended = c .before in
+    let policy = ended .before .args .t1 in
     let full : length (policy .exceptions) ≡ mostExceptions = search (needs, length-of-map) in
-    sym
-    (c .before .loop .inv
-    ∙ ap (exceptionsInForm fields (directivesOf policy) (c .before .loop .before)) (over exceptionOf (policy .exceptions) (policy .«exception_count») (c .before .loop .i) (omega arith)))
+    let none-left = over exceptionOf (policy .exceptions) (policy .«exception_count») (ended .loop .i) (omega arith) in
+    sym (ended .loop .inv ∙ ap (exceptionsInForm fields (directivesOf policy) (ended .loop .before)) none-left)
 
 pub exceptions-in-form-spec : {M : Type 1} → statement M
 exceptions-in-form-spec =

@@ -34,21 +34,26 @@ accepting-requires c κs = search needs
 
 mul-mask : tie.Need-mul-mask Inv-loop μ-loop
 mul-mask c =
-    let full : length (c .before .before .before .before .args .t1 .directives) ≡ mostDirectives = search (needs, length-of-map) in
-    omega (arith, mask-room _ _ _ _ (omega arith) _ _ _ _ (omega arith) (c .before .before .before .loop .inv) (c .accepting .ensures) (omega arith))
+    let entered = c .before .before .before in
+    let full : length (entered .before .args .t1 .directives) ≡ mostDirectives = search (needs, length-of-map) in
+    let room = mask-room _ _ _ _ (omega arith) _ _ _ _ (omega arith) (entered .loop .inv) (c .accepting .ensures) (omega arith) in
+    omega (arith, room)
 
 add-mask : tie.Need-add-mask Inv-loop μ-loop
 add-mask c =
-    let full : length (c .before .before .before .before .args .t1 .directives) ≡ mostDirectives = search (needs, length-of-map) in
-    omega (arith, mask-room _ _ _ _ (omega arith) _ _ _ _ (omega arith) (c .before .before .before .loop .inv) (c .accepting .ensures) (omega arith))
+    let entered = c .before .before .before in
+    let full : length (entered .before .args .t1 .directives) ≡ mostDirectives = search (needs, length-of-map) in
+    let room = mask-room _ _ _ _ (omega arith) _ _ _ _ (omega arith) (entered .loop .inv) (c .accepting .ensures) (omega arith) in
+    omega (arith, room)
 
 loop-less : tie.Need-loop-less Inv-loop μ-loop
 loop-less c = search needs
 
 loop-again : tie.Need-loop-again Inv-loop μ-loop
 loop-again c =
-    let full : length (c .before .before .before .before .args .t1 .directives) ≡ mostDirectives = search (needs, length-of-map) in
-    mask-more _ _ _ _ (omega arith) _ _ _ _ (omega arith) (c .before .before .before .loop .inv) (c .accepting .ensures)
+    let entered = c .before .before .before in
+    let full : length (entered .before .args .t1 .directives) ≡ mostDirectives = search (needs, length-of-map) in
+    mask-more _ _ _ _ (omega arith) _ _ _ _ (omega arith) (entered .loop .inv) (c .accepting .ensures)
 
 returns : tie.Need-returns Inv-loop μ-loop
 returns c = mask-end _ _ _ _ (omega arith) (c .before .loop .inv)

@@ -12,7 +12,8 @@ use Rattle.front.proofs.exceptions_of.Statement.{statement}
 use Rattle.front.proofs.exceptions_of.Tie as tie
 
 abbrev Inv-loop : tie.InvT-loop
-Inv-loop number policy mask₀ i₀ mask i = MaskFrom exceptionOf (λ (e : Exception). eqb (e .directive) number) (policy .exceptions) (policy .«exception_count») i mask
+Inv-loop number policy mask₀ i₀ mask i =
+    MaskFrom exceptionOf (λ (e : Exception). eqb (e .directive) number) (policy .exceptions) (policy .«exception_count») i mask
 
 abbrev μ-loop : tie.MeasureT-loop
 μ-loop number policy mask₀ i₀ mask i = i
@@ -34,21 +35,26 @@ named-requires c κs = search needs
 
 mul-mask : tie.Need-mul-mask Inv-loop μ-loop
 mul-mask c =
-    let full : length (c .before .before .before .before .args .t1 .exceptions) ≡ mostExceptions = search (needs, length-of-map) in
-    omega (arith, mask-room _ _ _ _ (omega arith) _ _ _ _ (omega arith) (c .before .before .before .loop .inv) (c .named .ensures) (omega arith))
+    let entered = c .before .before .before in
+    let full : length (entered .before .args .t1 .exceptions) ≡ mostExceptions = search (needs, length-of-map) in
+    let room = mask-room _ _ _ _ (omega arith) _ _ _ _ (omega arith) (entered .loop .inv) (c .named .ensures) (omega arith) in
+    omega (arith, room)
 
 add-mask : tie.Need-add-mask Inv-loop μ-loop
 add-mask c =
-    let full : length (c .before .before .before .before .args .t1 .exceptions) ≡ mostExceptions = search (needs, length-of-map) in
-    omega (arith, mask-room _ _ _ _ (omega arith) _ _ _ _ (omega arith) (c .before .before .before .loop .inv) (c .named .ensures) (omega arith))
+    let entered = c .before .before .before in
+    let full : length (entered .before .args .t1 .exceptions) ≡ mostExceptions = search (needs, length-of-map) in
+    let room = mask-room _ _ _ _ (omega arith) _ _ _ _ (omega arith) (entered .loop .inv) (c .named .ensures) (omega arith) in
+    omega (arith, room)
 
 loop-less : tie.Need-loop-less Inv-loop μ-loop
 loop-less c = search needs
 
 loop-again : tie.Need-loop-again Inv-loop μ-loop
 loop-again c =
-    let full : length (c .before .before .before .before .args .t1 .exceptions) ≡ mostExceptions = search (needs, length-of-map) in
-    mask-more _ _ _ _ (omega arith) _ _ _ _ (omega arith) (c .before .before .before .loop .inv) (c .named .ensures)
+    let entered = c .before .before .before in
+    let full : length (entered .before .args .t1 .exceptions) ≡ mostExceptions = search (needs, length-of-map) in
+    mask-more _ _ _ _ (omega arith) _ _ _ _ (omega arith) (entered .loop .inv) (c .named .ensures)
 
 returns : tie.Need-returns Inv-loop μ-loop
 returns c = mask-end _ _ _ _ (omega arith) (c .before .loop .inv)

@@ -47,16 +47,26 @@ loop-less c = search needs
 
 loop-again : tie.Need-loop-again Inv-loop μ-loop
 loop-again c =
-    let full : length (c .before .before .before .before .before .before .before .args .t1 .directives) ≡ mostDirectives = search (needs, length-of-map) in
-    turned-accept _ (omega arith) _ _ _ _ _ (c .before .before .before .before .loop-test .taken) (c .before .before .before .before .before .before .before .pre .2 _ (c .before .before .before .before .loop-test .taken)) (c .before .before .before .before .before .loop .inv) (c .before .accepting .ensures) (c .if1 .taken)
+    let answered = c .before in
+    let tested = answered .before .before .before in
+    let entered = tested .before in
+    let entry = entered .before .before in
+    let below = tested .loop-test .taken in
+    let full : length (entry .args .t1 .directives) ≡ mostDirectives = search (needs, length-of-map) in
+    turned-accept _ (omega arith) _ _ _ _ _ below (entry .pre .2 _ below) (entered .loop .inv) (answered .accepting .ensures) (c .if1 .taken)
 
 loop-less-2 : tie.Need-loop-less-2 Inv-loop μ-loop
 loop-less-2 c = search needs
 
 loop-again-2 : tie.Need-loop-again-2 Inv-loop μ-loop
 loop-again-2 c =
-    let full : length (c .before .before .before .before .before .before .before .args .t1 .directives) ≡ mostDirectives = search (needs, length-of-map) in
-    turned-deny _ (omega arith) _ _ _ _ _ (c .before .before .before .before .loop-test .taken) (c .before .before .before .before .before .before .before .pre .2 _ (c .before .before .before .before .loop-test .taken)) (c .before .before .before .before .before .loop .inv) (c .before .accepting .ensures) (c .if1 .left)
+    let answered = c .before in
+    let tested = answered .before .before .before in
+    let entered = tested .before in
+    let entry = entered .before .before in
+    let below = tested .loop-test .taken in
+    let full : length (entry .args .t1 .directives) ≡ mostDirectives = search (needs, length-of-map) in
+    turned-deny _ (omega arith) _ _ _ _ _ below (entry .pre .2 _ below) (entered .loop .inv) (answered .accepting .ensures) (c .if1 .left)
 
 slice-write-words : tie.Need-slice-write-words Inv-loop μ-loop
 slice-write-words c = search needs
@@ -69,8 +79,11 @@ same-length c = search needs
 
 returns : tie.Need-returns Inv-loop μ-loop
 returns c =
-    let full : length (c .before .before .before .args .t1 .directives) ≡ mostDirectives = search (needs, length-of-map) in
-    turned-end _ (omega (arith, length-within directiveOf (c .before .before .before .args .t1 .directives) (c .before .before .before .args .t1 .«directive_count») (omega arith))) (c .before .loop .inv)
+    let entered = c .before in
+    let policy = entered .before .before .args .t1 in
+    let full : length (policy .directives) ≡ mostDirectives = search (needs, length-of-map) in
+    let long = length-within directiveOf (policy .directives) (policy .«directive_count») (omega arith) in
+    turned-end _ (omega (arith, long)) (entered .loop .inv)
 
 pub put-turning-spec : {M : Type 1} → statement M
 put-turning-spec =

@@ -47,32 +47,44 @@ cast-number c = search needs
 
 returns : tie.Need-returns Inv-loop μ-loop
 returns c =
-    let rules = c .before .before .before .before .before .before .args .t1 in
-    let packet = c .before .before .before .before .before .before .args .packet in
+    let tested = c .before in
+    let begun = tested .before .before .before in
+    let args = begun .before .before .args in
+    let rules = args .t1 in
+    let packet = args .packet in
     let full : length (rules .records) ≡ mostRules = search (needs, length-of-map) in
+    let here = sym (tested .holds .ensures) ∙ c .if1 .taken in
     sym
-    (c .before .before .before .before .loop .inv
-    ∙ first-here ruleOf (rules .records) (rules .count) (λ (r : meaning.Rule). holds (r .block) (packetOf packet)) (c .before .before .before .before .loop .passed) zeroRule (omega arith) (omega arith) (sym (c .before .holds .ensures) ∙ c .if1 .taken))
+    (begun .loop .inv
+    ∙ first-here ruleOf (rules .records) (rules .count) (λ (r : meaning.Rule). holds (r .block) (packetOf packet))
+    (begun .loop .passed) zeroRule (omega arith) (omega arith) here)
 
 loop-less : tie.Need-loop-less Inv-loop μ-loop
 loop-less c = search needs
 
 loop-again : tie.Need-loop-again Inv-loop μ-loop
 loop-again c =
-    let rules = c .before .before .before .before .before .before .args .t1 in
-    let packet = c .before .before .before .before .before .before .args .packet in
+    let tested = c .before in
+    let begun = tested .before .before .before in
+    let args = begun .before .before .args in
+    let rules = args .t1 in
+    let packet = args .packet in
     let full : length (rules .records) ≡ mostRules = search (needs, length-of-map) in
-    c .before .before .before .before .loop .inv
-    ∙ first-later ruleOf (rules .records) (rules .count) (λ (r : meaning.Rule). holds (r .block) (packetOf packet)) (c .before .before .before .before .loop .passed) zeroRule (omega arith) (omega arith) (sym (c .before .holds .ensures) ∙ c .if1 .left)
+    let here = sym (tested .holds .ensures) ∙ c .if1 .left in
+    begun .loop .inv
+    ∙ first-later ruleOf (rules .records) (rules .count) (λ (r : meaning.Rule). holds (r .block) (packetOf packet))
+    (begun .loop .passed) zeroRule (omega arith) (omega arith) here
 
 returns-2 : tie.Need-returns-2 Inv-loop μ-loop
 returns-2 c =
-    let rules = c .before .before .before .args .t1 in
-    let packet = c .before .before .before .args .packet in
+    let ended = c .before in
+    let args = ended .before .before .args in
+    let rules = args .t1 in
+    let packet = args .packet in
     let full : length (rules .records) ≡ mostRules = search (needs, length-of-map) in
     sym
-    (c .before .loop .inv
-    ∙ first-over ruleOf (rules .records) (rules .count) (λ (r : meaning.Rule). holds (r .block) (packetOf packet)) (c .before .loop .passed) (omega arith))
+    (ended .loop .inv
+    ∙ first-over ruleOf (rules .records) (rules .count) (λ (r : meaning.Rule). holds (r .block) (packetOf packet)) (ended .loop .passed) (omega arith))
 
 pub deciding-spec : {M : Type 1} → statement M
 deciding-spec =

@@ -40,8 +40,10 @@ excepted-directive-requires c κs = search needs
 
 array-write-marks : tie.Need-array-write-marks Inv-loop μ-loop
 array-write-marks c =
-    subst⁻¹ (λ (k : ℕ). k < 33) (c .excepted-directive .ensures)
-    (excepted-within (packetOf (c .before .before .before .before .before .args .packet)) (exceptionOf (getD (c .before .before .before .before .before .args .t1 .exceptions) (c .before .before .before .loop .i) zeroException)))
+    let begun = c .before .before .before in
+    let args = begun .before .before .args in
+    let e = exceptionOf (getD (args .t1 .exceptions) (begun .loop .i) zeroException) in
+    subst⁻¹ (λ (k : ℕ). k < 33) (c .excepted-directive .ensures) (excepted-within (packetOf (args .packet)) e)
 
 add-i : tie.Need-add-i Inv-loop μ-loop
 add-i c = search needs
@@ -51,25 +53,31 @@ loop-less c = search needs
 
 loop-again : tie.Need-loop-again Inv-loop μ-loop
 loop-again c =
-    let policy = c .before .before .before .before .before .args .t1 in
-    let p = packetOf (c .before .before .before .before .before .args .packet) in
-    let e = exceptionOf (getD (policy .exceptions) (c .before .before .before .loop .i) zeroException) in
-    let left = drop (c .before .before .before .loop .i + 1) (exceptionsOf policy) in
+    let begun = c .before .before .before in
+    let i = begun .loop .i in
+    let marks = begun .loop .marks in
+    let args = begun .before .before .args in
+    let policy = args .t1 in
+    let p = packetOf (args .packet) in
+    let e = exceptionOf (getD (policy .exceptions) i zeroException) in
+    let left = drop (i + 1) (exceptionsOf policy) in
     let full : length (policy .exceptions) ≡ mostExceptions = search (needs, length-of-map) in
-    let this = next exceptionOf (policy .exceptions) (policy .«exception_count») (c .before .before .before .loop .i) zeroException (omega arith) (omega arith) in
-    subst⁻¹ (λ (k : ℕ). Marked p (exceptionsOf policy) left (set (c .before .before .before .loop .marks) k true)) (c .excepted-directive .ensures)
-    (marked-more p (exceptionsOf policy) e left (c .before .before .before .loop .marks)
-    (subst (λ (es : List Exception). Marked p (exceptionsOf policy) es (c .before .before .before .loop .marks)) this (c .before .before .before .loop .inv)))
+    let this = next exceptionOf (policy .exceptions) (policy .«exception_count») i zeroException (omega arith) (omega arith) in
+    subst⁻¹ (λ (k : ℕ). Marked p (exceptionsOf policy) left (set marks k true)) (c .excepted-directive .ensures)
+    (marked-more p (exceptionsOf policy) e left marks
+    (subst (λ (es : List Exception). Marked p (exceptionsOf policy) es marks) this (begun .loop .inv)))
 
 returns : tie.Need-returns Inv-loop μ-loop
 returns c =
-    let policy = c .before .before .before .args .t1 in
-    let p = packetOf (c .before .before .before .args .packet) in
+    let ended = c .before in
+    let marks = ended .loop .marks in
+    let args = ended .before .before .args in
+    let policy = args .t1 in
+    let p = packetOf (args .packet) in
     let full : length (policy .exceptions) ≡ mostExceptions = search (needs, length-of-map) in
-    let none-left = over exceptionOf (policy .exceptions) (policy .«exception_count») (c .before .loop .i) (omega arith) in
-    record {
-      at = marked-end p (exceptionsOf policy) (c .before .loop .marks) (subst (λ (es : List Exception). Marked p (exceptionsOf policy) es (c .before .loop .marks)) none-left (c .before .loop .inv));
-    }
+    let none-left = over exceptionOf (policy .exceptions) (policy .«exception_count») (ended .loop .i) (omega arith) in
+    let marked = subst (λ (es : List Exception). Marked p (exceptionsOf policy) es marks) none-left (ended .loop .inv) in
+    record { at = marked-end p (exceptionsOf policy) marks marked }
 
 pub excepted-spec : {M : Type 1} → statement M
 excepted-spec =

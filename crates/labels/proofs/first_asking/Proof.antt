@@ -46,31 +46,40 @@ cast-result c = search needs
 
 returns : tie.Need-returns Inv-loop μ-loop
 returns c =
-    let policy = c .before .before .before .before .before .before .args .t1 in
-    let a = actionOf (c .before .before .before .before .before .before .args .action) in
-    let p = packetOf (c .before .before .before .before .before .before .args .packet) in
+    let tested = c .before in
+    let begun = tested .before .before .before in
+    let i = begun .loop .i in
+    let entry = begun .before .before in
+    let policy = entry .args .t1 in
+    let a = actionOf (entry .args .action) in
+    let p = packetOf (entry .args .packet) in
     let full : length (policy .directives) ≡ mostDirectives = search (needs, length-of-map) in
-    sym
-    (c .before .before .before .before .loop .inv
-    ∙ asking-here policy a p (c .before .before .before .before .loop .i) (omega arith) (omega arith) _ (c .before .before .before .before .before .before .pre .at (c .before .before .before .before .loop .i + 1) (omega arith) (omega arith)) (sym (c .before .asks .ensures) ∙ c .if1 .taken))
+    let mark = entry .pre .at (i + 1) (omega arith) (omega arith) in
+    sym (begun .loop .inv ∙ asking-here policy a p i (omega arith) (omega arith) _ mark (sym (tested .asks .ensures) ∙ c .if1 .taken))
 
 loop-less : tie.Need-loop-less Inv-loop μ-loop
 loop-less c = search needs
 
 loop-again : tie.Need-loop-again Inv-loop μ-loop
 loop-again c =
-    let policy = c .before .before .before .before .before .before .args .t1 in
-    let a = actionOf (c .before .before .before .before .before .before .args .action) in
-    let p = packetOf (c .before .before .before .before .before .before .args .packet) in
+    let tested = c .before in
+    let begun = tested .before .before .before in
+    let i = begun .loop .i in
+    let entry = begun .before .before in
+    let policy = entry .args .t1 in
+    let a = actionOf (entry .args .action) in
+    let p = packetOf (entry .args .packet) in
     let full : length (policy .directives) ≡ mostDirectives = search (needs, length-of-map) in
-    c .before .before .before .before .loop .inv
-    ∙ asking-later policy a p (c .before .before .before .before .loop .i) (omega arith) (omega arith) _ (c .before .before .before .before .before .before .pre .at (c .before .before .before .before .loop .i + 1) (omega arith) (omega arith)) (sym (c .before .asks .ensures) ∙ c .if1 .left)
+    let mark = entry .pre .at (i + 1) (omega arith) (omega arith) in
+    begun .loop .inv ∙ asking-later policy a p i (omega arith) (omega arith) _ mark (sym (tested .asks .ensures) ∙ c .if1 .left)
 
 returns-2 : tie.Need-returns-2 Inv-loop μ-loop
 returns-2 c =
-    let policy = c .before .before .before .args .t1 in
+    let ended = c .before in
+    let args = ended .before .before .args in
+    let policy = args .t1 in
     let full : length (policy .directives) ≡ mostDirectives = search (needs, length-of-map) in
-    sym (c .before .loop .inv ∙ asking-over policy (actionOf (c .before .before .before .args .action)) (packetOf (c .before .before .before .args .packet)) (c .before .loop .i) (omega arith))
+    sym (ended .loop .inv ∙ asking-over policy (actionOf (args .action)) (packetOf (args .packet)) (ended .loop .i) (omega arith))
 
 pub first-asking-spec : {M : Type 1} → statement M
 first-asking-spec =

@@ -28,10 +28,16 @@ judge-requires c κs = search needs
 returns : tie.Need-returns
 unfolding labels.label
 returns c =
-    let policy = policyOf (policySetOf (c .before .before .before .before .before .args .policy)) in
-    let p = packetOf (c .before .before .before .before .before .args .packet) in
+    let decided = c .before in
+    let denied = decided .before in
+    let accepted = denied .before in
+    let args = accepted .before .before .args in
+    let policy = policyOf (policySetOf (args .policy)) in
+    let p = packetOf (args .packet) in
+    let accepting = accepted .first-asking .ensures in
+    let denying = denied .first-asking2 .ensures in
     c .judge .ensures
-    ∙ simp (c .before .deciding .ensures, c .before .before .before .first-asking .ensures, c .before .before .first-asking2 .ensures, ← asked-by-number policy accept p, ← asked-by-number policy deny p)
+    ∙ simp (decided .deciding .ensures, accepting, denying, ← asked-by-number policy accept p, ← asked-by-number policy deny p)
 
 pub label-of-spec : {M : Type 1} → statement M
 label-of-spec =

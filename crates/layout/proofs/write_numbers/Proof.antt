@@ -41,18 +41,19 @@ loop-less : tie.Need-loop-less Inv-loop μ-loop
 loop-less c = search needs
 
 loop-again : tie.Need-loop-again Inv-loop μ-loop
-loop-again c = (
-  omega arith,
-  simp length-set (omega arith),
-  ap (λ (l : List ℕ). set l (c .before .before .before .args .at + c .before .before .loop .i) (getD (c .before .before .before .args .numbers .now) (c .before .before .loop .i) 0)) (c .before .before .loop .inv .2)
-      ∙ number-stored _ _ _ _ (c .before .loop-test .taken),
-)
+loop-again c =
+    let here = c .before .before .loop in
+    let args = c .before .before .before .args in
+    let stored = ap (λ (l : List ℕ). set l (args .at + here .i) (getD (args .numbers .now) (here .i) 0)) (here .inv .2) in
+    (omega arith, simp length-set (omega arith), stored ∙ number-stored _ _ _ _ (c .before .loop-test .taken))
 
 same-length : tie.Need-same-length Inv-loop μ-loop
 same-length c = search needs
 
 returns : tie.Need-returns Inv-loop μ-loop
-returns c = c .before .loop .inv .2 ∙ ap (λ (l : List ℕ). sets (c .before .before .args .buffer .now) (c .before .before .args .at) l) (take-all _ _ (c .loop-test .left))
+returns c =
+    let args = c .before .before .args in
+    c .before .loop .inv .2 ∙ ap (λ (l : List ℕ). sets (args .buffer .now) (args .at) l) (take-all _ _ (c .loop-test .left))
 
 pub write-numbers-spec : {M : Type 1} → statement M
 write-numbers-spec =

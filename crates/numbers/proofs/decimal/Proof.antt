@@ -7,7 +7,8 @@ use borrow.Author.Needs.{needs}
 use lib.ListN.{length, drop, getD, drop-of-length-le}
 use Rattle.numbers.specs.Decimals.{plain, digits, value}
 use Rattle.numbers.specs.declared.Number.the-variants.{Is}
-use Rattle.numbers.proofs.Reckoning.{value-grows, value-at, digit-low, digit-high, digit-good, decimal-is, decimal-unplain, decimal-letters, decimal-large}
+use Rattle.numbers.proofs.Reckoning.{value-grows, value-at, digit-low, digit-high, digit-good}
+use Rattle.numbers.proofs.Reckoning.{decimal-is, decimal-unplain, decimal-letters, decimal-large}
 use Rattle.numbers.proofs.decimal.Statement.{statement}
 use Rattle.numbers.proofs.decimal.Tie as tie
 
@@ -31,10 +32,20 @@ add-i : tie.Need-add-i Inv-loop μ-loop
 add-i c = search needs
 
 returns : tie.Need-returns Inv-loop μ-loop
-returns c = sym (decimal-letters (c .before .before .before .before .before .before .before .args .most) (c .before .before .before .before .before .before .before .args .text .now) (c .before .before .before .loop .inv .3 ∙ digit-low (c .before .before .before .before .before .before .before .args .text .now) (c .before .before .before .loop .i) (omega arith) (c .if2 .taken)))
+returns c =
+    let here = c .before .before .before in
+    let at = here .loop in
+    let args = here .before .before .before .before .args in
+    let text = args .text .now in
+    sym (decimal-letters (args .most) text (at .inv .3 ∙ digit-low text (at .i) (omega arith) (c .if2 .taken)))
 
 returns-2 : tie.Need-returns-2 Inv-loop μ-loop
-returns-2 c = sym (decimal-letters (c .before .before .before .before .before .before .before .before .args .most) (c .before .before .before .before .before .before .before .before .args .text .now) (c .before .before .before .before .loop .inv .3 ∙ digit-high (c .before .before .before .before .before .before .before .before .args .text .now) (c .before .before .before .before .loop .i) (omega arith) (c .if3 .taken)))
+returns-2 c =
+    let here = c .before .before .before .before in
+    let at = here .loop in
+    let args = here .before .before .before .before .args in
+    let text = args .text .now in
+    sym (decimal-letters (args .most) text (at .inv .3 ∙ digit-high text (at .i) (omega arith) (c .if3 .taken)))
 
 cast-longer : tie.Need-cast-longer Inv-loop μ-loop
 cast-longer c = search needs
@@ -50,11 +61,13 @@ add-longer c = search needs
 
 returns-3 : tie.Need-returns-3 Inv-loop μ-loop
 returns-3 c =
-    let text = c .before .before .before .before .before .before .before .before .before .args .text .now in
-    let i = c .before .before .before .before .before .loop .i in
-    let is = c .before .before .before .before .before .loop .inv .4 ∙ value-at text i (omega arith) (c .before .before .before .before .before .loop .value) in
-    let grows = value-grows (c .before .before .before .before .before .loop .value * 10 + (getD text i 0 - 48)) (drop (i + 1) text) in
-    sym (decimal-large (c .before .before .before .before .before .before .before .before .before .args .most) text (omega arith))
+    let here = c .before .before .before .before .before in
+    let at = here .loop in
+    let args = here .before .before .before .before .args in
+    let text = args .text .now in
+    let is = at .inv .4 ∙ value-at text (at .i) (omega arith) (at .value) in
+    let grows = value-grows (at .value * 10 + (getD text (at .i) 0 - 48)) (drop (at .i + 1) text) in
+    sym (decimal-large (args .most) text (omega arith))
 
 cast-value : tie.Need-cast-value Inv-loop μ-loop
 cast-value c = search needs
@@ -64,24 +77,32 @@ loop-less c = search needs
 
 loop-again : tie.Need-loop-again Inv-loop μ-loop
 loop-again c =
-    let text = c .before .before .before .before .before .before .before .before .before .args .text .now in
-    let i = c .before .before .before .before .before .loop .i in (
+    let here = c .before .before .before .before .before in
+    let at = here .loop in
+    let args = here .before .before .before .before .args in
+    let text = args .text .now in (
       omega arith,
       omega arith,
-      c .before .before .before .before .before .loop .inv .2,
-      c .before .before .before .before .before .loop .inv .3 ∙ digit-good text i (omega arith) (omega arith) (omega arith),
-      c .before .before .before .before .before .loop .inv .4 ∙ value-at text i (omega arith) (c .before .before .before .before .before .loop .value),
+      at .inv .2,
+      at .inv .3 ∙ digit-good text (at .i) (omega arith) (omega arith) (omega arith),
+      at .inv .4 ∙ value-at text (at .i) (omega arith) (at .value),
     )
 
 returns-4 : tie.Need-returns-4 Inv-loop μ-loop
 returns-4 c =
-    let text = c .before .before .before .before .before .args .text .now in
-    let over = drop-of-length-le text {i = c .before .loop .i} (omega arith) in
-    let is : value 0 text ≡ c .before .loop .value = c .before .loop .inv .4 ∙ ap (value (c .before .loop .value)) over in
-    sym (decimal-is (c .before .before .before .before .before .args .most) text (c .before .loop .inv .2) (c .before .loop .inv .3 ∙ ap digits over) (omega arith) ∙ ap Is is)
+    let here = c .before in
+    let at = here .loop in
+    let args = here .before .before .before .before .args in
+    let text = args .text .now in
+    let over = drop-of-length-le text {i = at .i} (omega arith) in
+    let is : value 0 text ≡ at .value = at .inv .4 ∙ ap (value (at .value)) over in
+    sym (decimal-is (args .most) text (at .inv .2) (at .inv .3 ∙ ap digits over) (omega arith) ∙ ap Is is)
 
 returns-5 : tie.Need-returns-5 Inv-loop μ-loop
-returns-5 c = sym (decimal-unplain (c .before .before .before .args .most) (c .before .before .before .args .text .now) (sym (c .before .is-plain .ensures) ∙ c .if1 .left))
+returns-5 c =
+    let asked = c .before in
+    let args = asked .before .before .args in
+    sym (decimal-unplain (args .most) (args .text .now) (sym (asked .is-plain .ensures) ∙ c .if1 .left))
 
 pub decimal-spec : {M : Type 1} → statement M
 decimal-spec =

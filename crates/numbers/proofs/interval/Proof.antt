@@ -28,8 +28,15 @@ range-requires c κs = search needs
 returns-2 : tie.Need-returns-2
 unfolding intervalOf
 returns-2 c =
-    simp (sym (c .before .before .before .before .before .before .is-star .ensures) ∙ c .before .before .before .before .before .if1 .left, eq-eqb _ 2 (sym (c .before .before .before .before .count .ensures) ∙ c .before .before .before .if2 .taken))
-    (c .range .ensures ∙ ap₂ range (c .before .before .decimal-part .ensures) (c .before .decimal-part2 .ensures))
+    let second = c .before in
+    let first = second .before in
+    let two = first .before in
+    let counted = two .before in
+    let unstarred = counted .before in
+    simp (
+      sym (unstarred .before .is-star .ensures) ∙ unstarred .if1 .left,
+      eq-eqb _ 2 (sym (counted .count .ensures) ∙ two .if2 .taken),
+    ) (c .range .ensures ∙ ap₂ range (first .decimal-part .ensures) (second .decimal-part2 .ensures))
 
 decimal-requires : tie.Need-decimal-requires
 decimal-requires c κs = search needs
@@ -40,8 +47,14 @@ single-requires c κs = search needs
 returns-3 : tie.Need-returns-3
 unfolding intervalOf
 returns-3 c =
-    simp (sym (c .before .before .before .before .before .is-star .ensures) ∙ c .before .before .before .before .if1 .left, ne-eqb _ 2 (λ e. c .before .before .if2 .left (c .before .before .before .count .ensures ∙ e)))
-    (c .single .ensures ∙ ap single (c .before .decimal .ensures))
+    let read = c .before in
+    let not-two = read .before in
+    let counted = not-two .before in
+    let unstarred = counted .before in
+    simp (
+      sym (unstarred .before .is-star .ensures) ∙ unstarred .if1 .left,
+      ne-eqb _ 2 (λ e. not-two .if2 .left (counted .count .ensures ∙ e)),
+    ) (c .single .ensures ∙ ap single (read .decimal .ensures))
 
 pub interval-spec : {M : Type 1} → statement M
 interval-spec =

@@ -33,21 +33,30 @@ loop-less c = search needs
 
 loop-again : tie.Need-loop-again Inv-loop μ-loop
 loop-again c =
-    let more = ap length (at-separator (c .before .before .before .before .args .separator) (c .before .before .before .before .args .text .now) (c .before .before .before .loop .i) (omega arith) (c .if1 .taken)) in
-    (omega arith, omega arith, omega (arith, c .before .before .before .loop .inv .2))
+    let here = c .before .before .before in
+    let at = here .loop in
+    let args = here .before .args in
+    let more = ap length (at-separator (args .separator) (args .text .now) (at .i) (omega arith) (c .if1 .taken)) in
+    (omega arith, omega arith, omega (arith, at .inv .2))
 
 loop-less-2 : tie.Need-loop-less-2 Inv-loop μ-loop
 loop-less-2 c = search needs
 
 loop-again-2 : tie.Need-loop-again-2 Inv-loop μ-loop
 loop-again-2 c =
-    let other = other-count (c .before .before .before .before .args .separator) (c .before .before .before .before .args .text .now) (c .before .before .before .loop .i) (omega arith) (c .if1 .left) in
-    (omega arith, omega arith, omega (arith, c .before .before .before .loop .inv .2))
+    let here = c .before .before .before in
+    let at = here .loop in
+    let args = here .before .args in
+    let other = other-count (args .separator) (args .text .now) (at .i) (omega arith) (c .if1 .left) in
+    (omega arith, omega arith, omega (arith, at .inv .2))
 
 returns : tie.Need-returns Inv-loop μ-loop
 returns c =
-    let none = ap length (at-end (c .before .before .args .separator) (c .before .before .args .text .now) (c .before .loop .i) (omega arith)) in
-    omega (arith, c .before .loop .inv .2)
+    let here = c .before in
+    let at = here .loop in
+    let args = here .before .args in
+    let none = ap length (at-end (args .separator) (args .text .now) (at .i) (omega arith)) in
+    omega (arith, at .inv .2)
 
 pub count-spec : {M : Type 1} → statement M
 count-spec =

@@ -21,8 +21,9 @@ abbrev μ-loop : tie.MeasureT-loop
 
 loop-holds : tie.Need-loop-holds Inv-loop μ-loop
 loop-holds c =
-    let all : c .before .args .n ≡ c .before .args .n - 0 = omega arith in
-    (omega arith, omega arith, ap (piece (c .before .args .separator) (c .before .args .text .now)) all)
+    let args = c .before .args in
+    let all : args .n ≡ args .n - 0 = omega arith in
+    (omega arith, omega arith, ap (piece (args .separator) (args .text .now)) all)
 
 part-end-requires : tie.Need-part-end-requires Inv-loop μ-loop
 part-end-requires c κs = search needs
@@ -38,14 +39,19 @@ loop-less c = search needs
 
 loop-again : tie.Need-loop-again Inv-loop μ-loop
 loop-again c =
-    let text = c .before .before .before .before .before .args .text .now in
+    let found = c .before in
+    let ended = found .part-end in
+    let here = found .before .before in
+    let at = here .loop in
+    let args = here .before .before .args in
+    let text = args .text .now in
     let none : Piece = record { place = length text; bytes = [] } in
-    let fewer : c .before .before .before .before .before .args .n - c .before .before .before .loop .passed ≡ suc (c .before .before .before .before .before .args .n - (c .before .before .before .loop .passed + 1)) = omega arith in (
+    let fewer : args .n - at .passed ≡ suc (args .n - (at .passed + 1)) = omega arith in
+    let counted = ap (λ (k : ℕ). getD (piecesFrom (at .start) (parts (args .separator) (drop (at .start) text))) k none) fewer in
+    let next = pieces-next (args .separator) text (at .start) (ended .result) (ended .ensures .1) (omega arith) (omega arith) in (
       omega arith,
       omega arith,
-      c .before .before .before .loop .inv .2
-          ∙ ap (λ (k : ℕ). getD (piecesFrom (c .before .before .before .loop .start) (parts (c .before .before .before .before .before .args .separator) (drop (c .before .before .before .loop .start) text))) k none) fewer
-          ∙ ap (λ (ps : List Piece). getD ps (suc (c .before .before .before .before .before .args .n - (c .before .before .before .loop .passed + 1))) none) (pieces-next (c .before .before .before .before .before .args .separator) text (c .before .before .before .loop .start) (c .before .part-end .result) (c .before .part-end .ensures .1) (omega arith) (omega arith)),
+      at .inv .2 ∙ counted ∙ ap (λ (ps : List Piece). getD ps (suc (args .n - (at .passed + 1))) none) next,
     )
 
 sub-result : tie.Need-sub-result Inv-loop μ-loop
@@ -59,18 +65,23 @@ part-result-end c = search needs
 
 returns : tie.Need-returns Inv-loop μ-loop
 returns c =
-    let text = c .before .before .before .before .before .before .args .text .now in
+    let found = c .before .before in
+    let ended = found .part-end in
+    let here = found .before .before in
+    let at = here .loop in
+    let args = here .before .before .args in
+    let text = args .text .now in
     let none : Piece = record { place = length text; bytes = [] } in
-    let fewer : c .before .before .before .before .before .before .args .n - c .before .before .before .before .loop .passed ≡ suc (c .before .before .before .before .before .before .args .n - (c .before .before .before .before .loop .passed + 1)) = omega arith in
-    let end : c .before .before .part-end .result ≡ length text = omega arith in
-    let nothing : c .before .before .part-end .result - c .before .before .part-end .result ≡ 0 = omega arith in
-    let is : piece (c .before .before .before .before .before .before .args .separator) text (c .before .before .before .before .before .before .args .n) ≡ none =
-    c .before .before .before .before .loop .inv .2
-    ∙ ap (λ (k : ℕ). getD (piecesFrom (c .before .before .before .before .loop .start) (parts (c .before .before .before .before .before .before .args .separator) (drop (c .before .before .before .before .loop .start) text))) k none) fewer
-    ∙ ap (λ (ps : List Piece). getD ps (suc (c .before .before .before .before .before .before .args .n - (c .before .before .before .before .loop .passed + 1))) none) (pieces-last (c .before .before .before .before .before .before .args .separator) text (c .before .before .before .before .loop .start) (c .before .before .part-end .result) (c .before .before .part-end .ensures .1) (omega arith) (omega arith)) in
-    ap (λ (m : ℕ). shown (c .before .before .before .before .before .before .args .text) (record { place = c .before .before .part-end .result; bytes = take m (drop (c .before .before .part-end .result) text) })) nothing
-    ∙ ap (λ (m : ℕ). shown (c .before .before .before .before .before .before .args .text) (record { place = m; bytes = [] })) end
-    ∙ ap (shown (c .before .before .before .before .before .before .args .text)) (sym is)
+    let fewer : args .n - at .passed ≡ suc (args .n - (at .passed + 1)) = omega arith in
+    let counted = ap (λ (k : ℕ). getD (piecesFrom (at .start) (parts (args .separator) (drop (at .start) text))) k none) fewer in
+    let last = pieces-last (args .separator) text (at .start) (ended .result) (ended .ensures .1) (omega arith) (omega arith) in
+    let past = ap (λ (ps : List Piece). getD ps (suc (args .n - (at .passed + 1))) none) last in
+    let is : piece (args .separator) text (args .n) ≡ none = at .inv .2 ∙ counted ∙ past in
+    let end : ended .result ≡ length text = omega arith in
+    let nothing : ended .result - ended .result ≡ 0 = omega arith in
+    ap (λ (m : ℕ). shown (args .text) (record { place = ended .result; bytes = take m (drop (ended .result) text) })) nothing
+    ∙ ap (λ (m : ℕ). shown (args .text) (record { place = m; bytes = [] })) end
+    ∙ ap (shown (args .text)) (sym is)
 
 part-end-requires-2 : tie.Need-part-end-requires-2 Inv-loop μ-loop
 part-end-requires-2 c κs = search needs
@@ -86,14 +97,17 @@ part-result-end-2 c = search needs
 
 returns-2 : tie.Need-returns-2 Inv-loop μ-loop
 returns-2 c =
-    let text = c .before .before .before .before .before .args .text .now in
+    let found = c .before in
+    let ended = found .part-end2 in
+    let here = found .before .before in
+    let at = here .loop in
+    let args = here .before .before .args in
+    let text = args .text .now in
     let none : Piece = record { place = length text; bytes = [] } in
-    let last : c .before .before .before .before .before .args .n - c .before .before .before .loop .passed ≡ 0 = omega arith in
-    let is =
-    c .before .before .before .loop .inv .2
-    ∙ ap (λ (k : ℕ). getD (piecesFrom (c .before .before .before .loop .start) (parts (c .before .before .before .before .before .args .separator) (drop (c .before .before .before .loop .start) text))) k none) last
-    ∙ piece-here (c .before .before .before .before .before .args .separator) text (c .before .before .before .loop .start) (c .before .part-end2 .result) (c .before .part-end2 .ensures .1) (omega arith) none in
-    ap (shown (c .before .before .before .before .before .args .text)) (sym is)
+    let last : args .n - at .passed ≡ 0 = omega arith in
+    let counted = ap (λ (k : ℕ). getD (piecesFrom (at .start) (parts (args .separator) (drop (at .start) text))) k none) last in
+    let is = at .inv .2 ∙ counted ∙ piece-here (args .separator) text (at .start) (ended .result) (ended .ensures .1) (omega arith) none in
+    ap (shown (args .text)) (sym is)
 
 pub part-spec : {M : Type 1} → statement M
 part-spec =

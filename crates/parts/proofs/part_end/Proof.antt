@@ -25,8 +25,12 @@ shared-slice-read-if1 c = search needs
 
 returns : tie.Need-returns Inv-loop μ-loop
 returns c =
-    let first = ap (λ (ps : List (List ℕ)). length (getD ps 0 [])) (at-separator (c .before .before .before .before .args .separator) (c .before .before .before .before .args .text .now) (c .before .before .before .loop .end) (omega arith) (c .if1 .taken)) in
-    (omega arith, omega (arith, c .before .before .before .loop .inv .1))
+    let here = c .before .before .before in
+    let at = here .loop in
+    let args = here .before .args in
+    let cut = at-separator (args .separator) (args .text .now) (at .end) (omega arith) (c .if1 .taken) in
+    let first = ap (λ (ps : List (List ℕ)). length (getD ps 0 [])) cut in
+    (omega arith, omega (arith, at .inv .1))
 
 add-end : tie.Need-add-end Inv-loop μ-loop
 add-end c = search needs
@@ -36,13 +40,19 @@ loop-less c = search needs
 
 loop-again : tie.Need-loop-again Inv-loop μ-loop
 loop-again c =
-    let more = other-first (c .before .before .before .before .args .separator) (c .before .before .before .before .args .text .now) (c .before .before .before .loop .end) (omega arith) (c .if1 .left) in
-    (omega arith, omega (arith, c .before .before .before .loop .inv .1))
+    let here = c .before .before .before in
+    let at = here .loop in
+    let args = here .before .args in
+    let more = other-first (args .separator) (args .text .now) (at .end) (omega arith) (c .if1 .left) in
+    (omega arith, omega (arith, at .inv .1))
 
 returns-2 : tie.Need-returns-2 Inv-loop μ-loop
 returns-2 c =
-    let none = ap (λ (ps : List (List ℕ)). length (getD ps 0 [])) (at-end (c .before .before .args .separator) (c .before .before .args .text .now) (c .before .loop .end) (omega arith)) in
-    (omega arith, omega (arith, c .before .loop .inv .1))
+    let here = c .before in
+    let at = here .loop in
+    let args = here .before .args in
+    let none = ap (λ (ps : List (List ℕ)). length (getD ps 0 [])) (at-end (args .separator) (args .text .now) (at .end) (omega arith)) in
+    (omega arith, omega (arith, at .inv .1))
 
 pub part-end-spec : {M : Type 1} → statement M
 part-end-spec =

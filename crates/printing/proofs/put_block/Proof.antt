@@ -39,14 +39,18 @@ same-length c = search needs
 returns : tie.Need-returns
 unfolding blockLine
 returns c =
-    put-then (c .before .before .before .before .before .before .before .before .before .before .before .before .before .before .before .before .before .before .before .before .before .before .before .before .before .before .before .before .before .before .put-bytes .ensures)
-    (put-then
-    (put-fields (c .before .before .before .before .before .before .before .before .before .before .before .before .before .before .before .before .before .before .before .before .before .before .before .before .before .before .put-number .ensures)
-    (put-fields (c .before .before .before .before .before .before .before .before .before .before .before .before .before .before .before .before .before .before .before .before .before .before .put-number2 .ensures)
-    (put-fields (c .before .before .before .before .before .before .before .before .before .before .before .before .before .before .before .before .before .before .put-addresses .ensures)
-    (put-fields (c .before .before .before .before .before .before .before .before .before .before .before .before .before .before .put-addresses2 .ensures)
-    (put-fields (c .before .before .before .before .before .before .before .before .before .before .put-numbers .ensures) (c .before .before .before .before .before .before .put-numbers2 .ensures))))) .fields)
-    (c .before .before .put-byte .ensures))
+    let ended = c .before .before in
+    let ports-put = ended .before .before .before .before in
+    let protocols-put = ports-put .before .before .before .before in
+    let destinations-put = protocols-put .before .before .before .before in
+    let sources-put = destinations-put .before .before .before .before in
+    let rule-put = sources-put .before .before .before .before in
+    let kind-put = rule-put .before .before .before .before in
+    let begun = kind-put .before .before .before .before in
+    let numbers = put-fields (protocols-put .put-numbers .ensures) (ports-put .put-numbers2 .ensures) in
+    let bounds = put-fields (sources-put .put-addresses .ensures) (put-fields (destinations-put .put-addresses2 .ensures) numbers) in
+    put-then (begun .put-bytes .ensures)
+    (put-then (put-fields (kind-put .put-number .ensures) (put-fields (rule-put .put-number2 .ensures) bounds) .fields) (ended .put-byte .ensures))
 
 pub put-block-spec : {M : Type 1} → statement M
 put-block-spec =

@@ -20,7 +20,13 @@ same-length : tie.Need-same-length
 same-length c = search needs
 
 returns : tie.Need-returns
-returns c = put-fields (c .before .before .before .before .before .before .before .before .before .before .before .before .before .before .put-address .ensures) (put-fields (c .before .before .before .before .before .before .before .before .before .before .put-address2 .ensures) (put-fields (c .before .before .before .before .before .before .put-number .ensures) (c .before .before .put-number2 .ensures)))
+returns c =
+    let port-put = c .before .before in
+    let protocol-put = port-put .before .before .before .before in
+    let destination-put = protocol-put .before .before .before .before in
+    let source-put = destination-put .before .before .before .before in
+    let numbers = put-fields (protocol-put .put-number .ensures) (port-put .put-number2 .ensures) in
+    put-fields (source-put .put-address .ensures) (put-fields (destination-put .put-address2 .ensures) numbers)
 
 pub put-packet-spec : {M : Type 1} → statement M
 put-packet-spec =

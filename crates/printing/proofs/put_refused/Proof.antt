@@ -32,7 +32,16 @@ same-length c = search needs
 
 returns : tie.Need-returns
 unfolding refusedLine
-returns c = put-then (c .before .before .before .before .before .before .before .before .before .before .before .before .before .before .before .before .before .before .before .before .before .before .put-bytes .ensures) (put-then (put-fields (c .before .before .before .before .before .before .before .before .before .before .before .before .before .before .before .before .before .before .put-name .ensures) (put-fields (c .before .before .before .before .before .before .before .before .before .before .before .before .before .before .put-number .ensures) (put-fields (c .before .before .before .before .before .before .before .before .before .before .put-number2 .ensures) (c .before .before .before .before .before .before .put-number3 .ensures))) .fields) (c .before .before .put-byte .ensures))
+returns c =
+    let ended = c .before .before in
+    let field-put = ended .before .before .before .before in
+    let line-put = field-put .before .before .before .before in
+    let number-put = line-put .before .before .before .before in
+    let name-put = number-put .before .before .before .before in
+    let begun = name-put .before .before .before .before in
+    let place = put-fields (line-put .put-number2 .ensures) (field-put .put-number3 .ensures) in
+    put-then (begun .put-bytes .ensures)
+    (put-then (put-fields (name-put .put-name .ensures) (put-fields (number-put .put-number .ensures) place) .fields) (ended .put-byte .ensures))
 
 pub put-refused-spec : {M : Type 1} → statement M
 put-refused-spec =

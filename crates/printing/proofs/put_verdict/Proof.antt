@@ -25,7 +25,10 @@ same-length c = search needs
 
 returns : tie.Need-returns
 unfolding verdictLine
-returns c = put-same (simp (eq-eqb _ 0 (sym (c .before .before .before .before .before .before .kind .ensures) ∙ c .before .before .before .before .before .if1 .taken))) (c .before .before .put-bytes .ensures)
+returns c =
+    let put = c .before .before in
+    let conforms = put .before .before .before in
+    put-same (simp (eq-eqb _ 0 (sym (conforms .before .kind .ensures) ∙ conforms .if1 .taken))) (put .put-bytes .ensures)
 
 slice-aggregate-put-bytes-2 : tie.Need-slice-aggregate-put-bytes-2
 slice-aggregate-put-bytes-2 c = search needs
@@ -60,15 +63,20 @@ same-length-2 c = search needs
 returns-2 : tie.Need-returns-2
 unfolding verdictLine
 returns-2 c =
-    put-same
-    (simp (ne-eqb _ 0 (λ e. c .before .before .before .before .before .before .before .before .before .before .before .before .before .before .before .before .before .before .before .before .before .before .before .before .before .before .before .before .before .before .if1 .left (c .before .before .before .before .before .before .before .before .before .before .before .before .before .before .before .before .before .before .before .before .before .before .before .before .before .before .before .before .before .before .before .kind .ensures ∙ e))))
-    (put-then (c .before .before .before .before .before .before .before .before .before .before .before .before .before .before .before .before .before .before .before .before .before .before .before .before .before .before .before .put-bytes2 .ensures)
-    (put-then
-    (put-fields (c .before .before .before .before .before .before .before .before .before .before .before .before .before .before .before .before .before .before .before .before .before .before .before .put-word .ensures)
-    (put-fields (fields-same (ap (λ (n : ℕ). decimal n ∷ []) (c .before .before .before .before .before .before .before .before .before .before .before .before .before .before .before .before .before .before .before .rule .ensures)) (c .before .before .before .before .before .before .before .before .before .before .before .before .before .before .before .before .before .before .put-number .ensures))
-    (put-fields (c .before .before .before .before .before .before .before .before .before .before .before .before .before .before .put-number2 .ensures)
-    (put-fields (c .before .before .before .before .before .before .before .before .before .before .put-number3 .ensures) (c .before .before .before .before .before .before .put-packet .ensures)))) .fields)
-    (c .before .before .put-byte .ensures)))
+    let ended = c .before .before in
+    let packet-put = ended .before .before .before .before in
+    let deny-put = packet-put .before .before .before .before in
+    let accept-put = deny-put .before .before .before .before in
+    let rule-put = accept-put .before .before .before .before in
+    let rule-told = rule-put .before in
+    let word-put = rule-told .before .before .before .before in
+    let begun = word-put .before .before .before .before in
+    let differs = begun .before .before .before in
+    let rule = fields-same (ap (λ (n : ℕ). decimal n ∷ []) (rule-told .rule .ensures)) (rule-put .put-number .ensures) in
+    let numbers = put-fields (accept-put .put-number2 .ensures) (put-fields (deny-put .put-number3 .ensures) (packet-put .put-packet .ensures)) in
+    put-same (simp (ne-eqb _ 0 (λ e. differs .if1 .left (differs .before .kind .ensures ∙ e))))
+    (put-then (begun .put-bytes2 .ensures)
+    (put-then (put-fields (word-put .put-word .ensures) (put-fields rule numbers) .fields) (ended .put-byte .ensures)))
 
 pub put-verdict-spec : {M : Type 1} → statement M
 put-verdict-spec =

@@ -67,37 +67,55 @@ same-length : tie.Need-same-length
 same-length c = search needs
 
 returns : tie.Need-returns
-returns c = fields-same (ap (λ (l : Label). word (labelOf l) ∷ []) (sym (c .before .before .before .before .before .enum-told .given .1))) (c .before .before .put-name .ensures)
+returns c =
+    let put = c .before .before in
+    let told = put .before .before .before in
+    fields-same (ap (λ (l : Label). word (labelOf l) ∷ []) (sym (told .enum-told .given .1))) (put .put-name .ensures)
 
 same-length-2 : tie.Need-same-length-2
 same-length-2 c = search needs
 
 returns-2 : tie.Need-returns-2
-returns-2 c = fields-same (ap (λ (l : Label). word (labelOf l) ∷ []) (sym (c .before .before .before .before .before .enum-told2 .given .1))) (c .before .before .put-name2 .ensures)
+returns-2 c =
+    let put = c .before .before in
+    let told = put .before .before .before in
+    fields-same (ap (λ (l : Label). word (labelOf l) ∷ []) (sym (told .enum-told2 .given .1))) (put .put-name2 .ensures)
 
 same-length-3 : tie.Need-same-length-3
 same-length-3 c = search needs
 
 returns-3 : tie.Need-returns-3
-returns-3 c = fields-same (ap (λ (l : Label). word (labelOf l) ∷ []) (sym (c .before .before .before .before .before .enum-told3 .given .1))) (c .before .before .put-name3 .ensures)
+returns-3 c =
+    let put = c .before .before in
+    let told = put .before .before .before in
+    fields-same (ap (λ (l : Label). word (labelOf l) ∷ []) (sym (told .enum-told3 .given .1))) (put .put-name3 .ensures)
 
 same-length-4 : tie.Need-same-length-4
 same-length-4 c = search needs
 
 returns-4 : tie.Need-returns-4
-returns-4 c = fields-same (ap (λ (l : Label). word (labelOf l) ∷ []) (sym (c .before .before .before .before .before .enum-told4 .given .1))) (c .before .before .put-name4 .ensures)
+returns-4 c =
+    let put = c .before .before in
+    let told = put .before .before .before in
+    fields-same (ap (λ (l : Label). word (labelOf l) ∷ []) (sym (told .enum-told4 .given .1))) (put .put-name4 .ensures)
 
 same-length-5 : tie.Need-same-length-5
 same-length-5 c = search needs
 
 returns-5 : tie.Need-returns-5
-returns-5 c = fields-same (ap (λ (l : Label). word (labelOf l) ∷ []) (sym (c .before .before .before .before .before .enum-told5 .given .1))) (c .before .before .put-name5 .ensures)
+returns-5 c =
+    let put = c .before .before in
+    let told = put .before .before .before in
+    fields-same (ap (λ (l : Label). word (labelOf l) ∷ []) (sym (told .enum-told5 .given .1))) (put .put-name5 .ensures)
 
 same-length-6 : tie.Need-same-length-6
 same-length-6 c = search needs
 
 returns-6 : tie.Need-returns-6
-returns-6 c = fields-same (ap (λ (l : Label). word (labelOf l) ∷ []) (sym (c .before .before .before .before .before .enum-told6 .given .1))) (c .before .before .put-name6 .ensures)
+returns-6 c =
+    let put = c .before .before in
+    let told = put .before .before .before in
+    fields-same (ap (λ (l : Label). word (labelOf l) ∷ []) (sym (told .enum-told6 .given .1))) (put .put-name6 .ensures)
 
 pub put-word-spec : {M : Type 1} → statement M
 put-word-spec =

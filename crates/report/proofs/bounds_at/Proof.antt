@@ -31,7 +31,8 @@ write-numbers-requires c κs = search needs
 returns : tie.Need-returns
 returns c =
     let entry = c .before .before .before .before .before in
-    c .before .write-numbers .ensures ∙ bounds-copied _ (entry .args .rows .now) (entry .args .from) (entry .args .from + blockBounds) refl (search needs) (entry .pre)
+    let a = entry .args in
+    c .before .write-numbers .ensures ∙ bounds-copied _ (a .rows .now) (a .from) (a .from + blockBounds) refl (search needs) (entry .pre)
 
 pub bounds-at-spec : {M : Type 1} → statement M
 bounds-at-spec =

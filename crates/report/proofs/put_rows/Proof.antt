@@ -33,13 +33,25 @@ loop-less : tie.Need-loop-less Inv-loop μ-loop
 loop-less c = search needs
 
 loop-again : tie.Need-loop-again Inv-loop μ-loop
-loop-again c = (omega arith, put-length (c .before .before .put-row .ensures) ∙ c .before .before .before .before .before .loop .inv .1, put-same (sym (lines-more (c .before .before .before .before .before .before .before .before .args .rows .now) (c .before .before .before .before .before .loop .i))) (put-then (c .before .before .before .before .before .loop .inv .2) (c .before .before .put-row .ensures)))
+loop-again c =
+    let row-put = c .before .before in
+    let before-row = row-put .before .before .before in
+    let rows = before-row .before .before .before .args .rows .now in
+    let inv = before-row .loop .inv in (
+      omega arith,
+      put-length (row-put .put-row .ensures) ∙ inv .1,
+      put-same (sym (lines-more rows (before-row .loop .i))) (put-then (inv .2) (row-put .put-row .ensures)),
+    )
 
 same-length : tie.Need-same-length Inv-loop μ-loop
 same-length c = search needs
 
 returns : tie.Need-returns Inv-loop μ-loop
-returns c = put-same (ap (rowLines (c .before .before .before .before .args .rows .now)) (let e : c .before .loop .i ≡ c .before .before .before .before .args .count = omega arith in e)) (c .before .loop .inv .2)
+returns c =
+    let at-end = c .before in
+    let args = at-end .before .before .before .args in
+    let all : at-end .loop .i ≡ args .count = omega arith in
+    put-same (ap (rowLines (args .rows .now)) all) (at-end .loop .inv .2)
 
 pub put-rows-spec : {M : Type 1} → statement M
 put-rows-spec =

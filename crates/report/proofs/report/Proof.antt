@@ -11,7 +11,11 @@ same-length : tie.Need-same-length
 same-length c = search needs
 
 returns : tie.Need-returns
-returns c = files-read _ _ (c .before .before .before .before .before .if1 .taken) (c .before .before .before .before .if2 .taken) (c .before .before .report-texts .ensures)
+returns c =
+    let reported = c .before .before in
+    let policy-is-read = reported .before .before in
+    let rules-are-read = policy-is-read .before in
+    files-read _ _ (rules-are-read .if1 .taken) (policy-is-read .if2 .taken) (reported .report-texts .ensures)
 
 slice-aggregate-put-unreadable : tie.Need-slice-aggregate-put-unreadable
 slice-aggregate-put-unreadable c = search needs
@@ -23,7 +27,11 @@ same-length-2 : tie.Need-same-length-2
 same-length-2 c = search needs
 
 returns-2 : tie.Need-returns-2
-returns-2 c = policy-unread _ _ (c .before .before .before .before .before .before .if1 .taken) (c .before .before .before .before .before .if2 .left) (c .before .before .put-unreadable .ensures)
+returns-2 c =
+    let told = c .before .before in
+    let policy-not-read = told .before .before .before in
+    let rules-are-read = policy-not-read .before in
+    policy-unread _ _ (rules-are-read .if1 .taken) (policy-not-read .if2 .left) (told .put-unreadable .ensures)
 
 slice-aggregate-put-unreadable-2 : tie.Need-slice-aggregate-put-unreadable-2
 slice-aggregate-put-unreadable-2 c = search needs
@@ -35,7 +43,10 @@ same-length-3 : tie.Need-same-length-3
 same-length-3 c = search needs
 
 returns-3 : tie.Need-returns-3
-returns-3 c = rules-unread _ (c .before .before .before .before .before .if1 .left) (c .before .before .put-unreadable2 .ensures)
+returns-3 c =
+    let told = c .before .before in
+    let rules-not-read = told .before .before .before in
+    rules-unread _ (rules-not-read .if1 .left) (told .put-unreadable2 .ensures)
 
 pub report-spec : {M : Type 1} → statement M
 report-spec =

@@ -11,13 +11,24 @@ read-policy-requires : tie.Need-read-policy-requires
 read-policy-requires c κs = search needs
 
 report-sets-requires : tie.Need-report-sets-requires
-report-sets-requires c κs = sets-in-form _ _ (c .before .before .before .before .before .before .before .before .read-rules .ensures) (c .before .before .before .before .before .if1 .taken) (c .before .before .before .before .read-policy .ensures)
+report-sets-requires c κs =
+    let policy-read = c .before .before .before .before in
+    let rules-in-form = policy-read .before in
+    let rules-read = rules-in-form .before .before .before in
+    sets-in-form _ _ (rules-read .read-rules .ensures) (rules-in-form .if1 .taken) (policy-read .read-policy .ensures)
 
 same-length : tie.Need-same-length
 same-length c = search needs
 
 returns : tie.Need-returns
-returns c = sets-put _ _ (c .before .before .before .before .before .before .before .before .before .before .before .read-rules .ensures) (c .before .before .before .before .before .before .before .before .if1 .taken) (c .before .before .before .before .before .before .before .read-policy .ensures) (c .before .before .before .before .if2 .taken) (c .before .before .report-sets .ensures)
+returns c =
+    let reported = c .before .before in
+    let policy-in-form = reported .before .before in
+    let policy-read = policy-in-form .before .before .before in
+    let rules-in-form = policy-read .before in
+    let rules-read = rules-in-form .before .before .before in
+    sets-put _ _ (rules-read .read-rules .ensures) (rules-in-form .if1 .taken) (policy-read .read-policy .ensures)
+    (policy-in-form .if2 .taken) (reported .report-sets .ensures)
 
 slice-aggregate-put-refused : tie.Need-slice-aggregate-put-refused
 slice-aggregate-put-refused c = search needs
@@ -29,7 +40,14 @@ same-length-2 : tie.Need-same-length-2
 same-length-2 c = search needs
 
 returns-2 : tie.Need-returns-2
-returns-2 c = policy-refused-put _ _ (c .before .before .before .before .before .before .before .before .before .before .before .before .read-rules .ensures) (c .before .before .before .before .before .before .before .before .before .if1 .taken) (c .before .before .before .before .before .before .before .before .read-policy .ensures) (c .before .before .before .before .before .if2 .left) (c .before .before .put-refused .ensures)
+returns-2 c =
+    let refused = c .before .before in
+    let policy-not-in-form = refused .before .before .before in
+    let policy-read = policy-not-in-form .before .before .before in
+    let rules-in-form = policy-read .before in
+    let rules-read = rules-in-form .before .before .before in
+    policy-refused-put _ _ (rules-read .read-rules .ensures) (rules-in-form .if1 .taken) (policy-read .read-policy .ensures)
+    (policy-not-in-form .if2 .left) (refused .put-refused .ensures)
 
 slice-aggregate-put-refused-2 : tie.Need-slice-aggregate-put-refused-2
 slice-aggregate-put-refused-2 c = search needs
@@ -41,7 +59,11 @@ same-length-3 : tie.Need-same-length-3
 same-length-3 c = search needs
 
 returns-3 : tie.Need-returns-3
-returns-3 c = rules-refused-put _ _ (c .before .before .before .before .before .before .before .before .read-rules .ensures) (c .before .before .before .before .before .if1 .left) (c .before .before .put-refused2 .ensures)
+returns-3 c =
+    let refused = c .before .before in
+    let rules-not-in-form = refused .before .before .before in
+    let rules-read = rules-not-in-form .before .before .before in
+    rules-refused-put _ _ (rules-read .read-rules .ensures) (rules-not-in-form .if1 .left) (refused .put-refused2 .ensures)
 
 pub report-texts-spec : {M : Type 1} → statement M
 report-texts-spec =
