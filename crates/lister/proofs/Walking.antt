@@ -107,10 +107,10 @@ module _ (w : Chart) (places : List ℕ) (field : ℕ) (s : Left) (row buffer₀
       → buffer ≡ rowAt buffer₀ total (labelledRow row l)
       → Told (blocksBelow w field s) (total + 1) buffer
   unfolding labelledRow buffers.bounds
-  one-told l buffer four e eb =
+  one-told l buffer last e eb =
       told-as (record { block = []; label = l } ∷ []) (total + 1) buffer (sym e) (
         omega arith,
-        eb ∙ ap (λ (b : List ℕ). rowAt buffer₀ total (kind l ∷ rule l ∷ b)) (ap (λ (j : ℕ). bounds j row) (sym four) ∙ sym (append-nil (bounds field row))),
+        eb ∙ ap (λ (b : List ℕ). rowAt buffer₀ total (kind l ∷ rule l ∷ b)) (ap (λ (j : ℕ). bounds j row) (sym last) ∙ sym (append-nil (bounds field row))),
       )
 
 -- the places of a run are as its row needs them
