@@ -2,6 +2,8 @@
 // lengths stand in a table, and the count of ones and of trailing zeros tells a mask. The contracts say that each answer is what
 // specs/ defines for the bytes, for every text.
 
+#![tactic(auto)]
+
 ghost use Rattle.std.specs.Prelude.{◌≡◌, ◌+◌, ◌*◌, ◌≤◌};
 ghost use Rattle.parts.specs.Parts.{part};
 ghost use Rattle.addresses.specs.Addresses.{quad_of, size_of, prefix_of, masked_by, sized_by, address_of};

@@ -3,6 +3,8 @@
 // fields can be past the largest; every call answers for every value all the same. Each contract says that the answer is
 // what `meaning` defines for the lists that the values stand for (specs/Vocabulary), and so leaves one answer only.
 
+#![tactic(auto)]
+
 ghost use Rattle.std.specs.Prelude.{◌&&◌, ◌≡◌, min, max, leb};
 ghost use Rattle.meaning.specs.Buffers.{bounds};
 ghost use Rattle.meaning.specs.Blocks.{within, holds, inside, widest, shares, narrow_span};
@@ -18,14 +20,14 @@ pub const FIELDS: usize = 4;
 pub const BOUNDS: usize = 2 * FIELDS;
 
 // The numbers from low to high, both included; none if low is above high.
-#[derive(Drop)]
+#[derive(Clone, Copy)]
 pub struct Span {
     pub low: u32,
     pub high: u32,
 }
 
 // A span for each field.
-#[derive(Drop)]
+#[derive(Clone, Copy)]
 pub struct Block {
     pub source: Span,
     pub destination: Span,
@@ -34,7 +36,7 @@ pub struct Block {
 }
 
 // A number for each field.
-#[derive(Drop)]
+#[derive(Clone, Copy)]
 pub struct Packet {
     pub source: u32,
     pub destination: u32,
@@ -43,7 +45,7 @@ pub struct Packet {
 }
 
 // What narrowing hands back: the block, and whether numbers were shared. Where none were, the block is as it was.
-#[derive(Drop)]
+#[derive(Clone, Copy)]
 pub struct Narrowed {
     pub block: Block,
     pub shared: bool,
@@ -270,7 +272,7 @@ impl Block {
 }
 
 // A span narrowed, and whether numbers were shared.
-#[derive(Drop)]
+#[derive(Clone, Copy)]
 struct NarrowedSpan {
     span: Span,
     shared: bool,

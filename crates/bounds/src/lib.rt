@@ -2,6 +2,8 @@
 // the exceptions, two for each field of a block. Whatever looks at blocks field by field works on this array and knows no set. The
 // contract of `put_blocks` says that the numbers stand in front of the lent array (specs/Spans), in the order of specs/SetBlocks.
 
+#![tactic(auto)]
+
 ghost use Rattle.std.specs.Prelude.{◌≡◌, ◌+◌, ◌*◌, ◌≤◌, length};
 ghost use Rattle.std.proofs.lemmas.List.Edits.{sets};
 ghost use Rattle.meaning.specs.Buffers.{bounds};

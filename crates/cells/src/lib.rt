@@ -3,6 +3,8 @@
 // words of a walk and the counts of strips are lent; `layout` says what stands where. `alike` is written once for all fields and stops
 // at the first cell with another label.
 
+#![tactic(auto)]
+
 ghost use Rattle.std.specs.Prelude.{◌≡◌, ℕ, ◌+◌, ◌*◌, ◌≤◌, ◌<◌, length};
 ghost use Rattle.meaning.specs.Sizes.{front_words};
 ghost use Rattle.cells.specs.Cells.{chart, Formed, label_number, asked_by, left_label, spot, left_at, Same, Tells, Nothing};
@@ -13,7 +15,7 @@ use layout::{
 };
 
 // The rules, directives and exceptions that are left, a binary digit for each.
-#[derive(Drop)]
+#[derive(Clone, Copy)]
 pub struct Left {
     pub rules: u64,
     pub directives: u64,

@@ -2,6 +2,8 @@
 // words written, and the chart of each field filled, one behind the other. The contract of `chart` says that the lent arrays are filled as
 // `specs/Charted` says.
 
+#![tactic(auto)]
+
 ghost use Rattle.std.specs.Prelude.{◌≡◌, ◌+◌, ◌≤◌, ◌<◌, length, get_or};
 ghost use Rattle.meaning.specs.Fields.{fields};
 ghost use Rattle.meaning.specs.Form.{most_rules, most_directives, most_exceptions};

@@ -3,6 +3,8 @@
 // all packets (specs/Answers) and leaves one answer only, with every number of the lent buffer. The work is done on a
 // chart of strips, arrays of 47 KB on the stack, from which `findings` has both.
 
+#![tactic(auto)]
+
 ghost use Rattle.findings.specs.Found.{InForm, ListingTold};
 ghost use Rattle.faults.specs.Answers.{JudgedAs, ListedAs};
 
@@ -11,7 +13,7 @@ use sets::{Label, Policy, Refusal, Rules};
 
 // What the verdict call gives: the verdict's label, its two directives and its packet, all zero if the table conforms; or a
 // refusal, and zeros beside it.
-#[derive(Drop)]
+#[derive(Clone, Copy)]
 pub struct Judged {
     pub refusal: Refusal,
     pub label: Label,
@@ -21,7 +23,7 @@ pub struct Judged {
 }
 
 // What the listing call gives: how many blocks the listing has, or a refusal and 0.
-#[derive(Drop)]
+#[derive(Clone, Copy)]
 pub struct Listed {
     pub refusal: Refusal,
     pub total: u64,

@@ -2,6 +2,8 @@
 // form: it is asked only that the counts are within their limits. The contracts say that the answers are what `meaning` defines over all
 // packets (specs/Found). `judge` and `lister` walk over the chart; no set is copied in a walk.
 
+#![tactic(auto)]
+
 ghost use Rattle.std.specs.Prelude.{◌≡◌, length};
 ghost use Rattle.meaning.specs.Sizes.{all_places};
 ghost use Rattle.blocks.specs.Vocabulary.{packet_of};
@@ -16,7 +18,7 @@ use layout::FIELD_PLACES;
 use sets::{Action, Label, Policy, Rules};
 
 // A verdict: its label, its two directives and its packet, all zero if the table conforms.
-#[derive(Drop)]
+#[derive(Clone, Copy)]
 pub struct Finding {
     pub label: Label,
     pub accept_directive: u32,

@@ -2,6 +2,8 @@
 // at. Every call answers for every value: what is not in form is refused by number 14, exactly when document 01 says so. Each
 // contract says that the refusal is the one that `meaning` defines for what the values stand for, and so leaves one answer only.
 
+#![tactic(auto)]
+
 ghost use Rattle.std.specs.Prelude.{cond, ◌&&◌, ◌≡◌, ◌≤◌, leb};
 ghost use Rattle.meaning.specs.Blocks.{inside};
 ghost use Rattle.meaning.specs.Fields.{fields};

@@ -2,6 +2,8 @@
 // They are made from the records of a rule set and a policy, and no block is looked at. The contract of `put_front` says that the lent
 // words begin with what `cells` calls `WordsOf` the sets.
 
+#![tactic(auto)]
+
 ghost use Rattle.std.specs.Prelude.{cond, ◌≡◌, ◌≤◌, eqb, length, take};
 ghost use Rattle.std.proofs.lemmas.List.Edits.{sets};
 ghost use Rattle.meaning.specs.Form.{Exception, most_rules, most_directives, most_exceptions};

@@ -7,7 +7,7 @@ use libc::STDOUT_FILENO;
 use sets::{Action, Refusal, Rule, Rules};
 
 // An answer as far as it is made: how many bytes it has in the buffer.
-#[derive(Drop)]
+#[derive(Clone, Copy)]
 pub(crate) struct Answer {
     length: usize,
 }

@@ -8,7 +8,7 @@ use libc::STDIN_FILENO;
 const MOST_BYTES: usize = 1024;
 
 // The bytes of a buffer from start up to end.
-#[derive(Drop)]
+#[derive(Clone, Copy)]
 pub(crate) struct Unread {
     pub(crate) start: usize,
     pub(crate) end: usize,

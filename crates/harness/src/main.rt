@@ -5,6 +5,8 @@
 // answered here; that program writes both anew, and they are not kept. The functions are proved safe and ending for every
 // input, not more.
 
+#![tactic(auto)]
+
 mod answers;
 mod changes;
 mod input;

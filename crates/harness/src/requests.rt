@@ -8,7 +8,7 @@ use blocks::{Block, Packet, Span};
 const MOST_NUMBERS: usize = 16;
 
 // A request's letter, 0 if its line is empty, and its numbers, 0 where they are lacking.
-#[derive(Drop)]
+#[derive(Clone, Copy)]
 pub(crate) struct Request {
     pub(crate) letter: u8,
     numbers: [u32; MOST_NUMBERS],

@@ -2,6 +2,8 @@
 // fields, and looks for what is better than the best so far; it passes over a strip where nothing is left or the same as at the
 // strip before, and stops at rank 0. It works on masks and strips by number and knows no address.
 
+#![tactic(auto)]
+
 ghost use Rattle.std.specs.Prelude.{[], ◌∷◌, ◌≡◌, ℕ, ◌+◌, ◌≤◌, ◌<◌, length, drop};
 ghost use Rattle.meaning.specs.Sizes.{field_count, good_rank};
 ghost use Rattle.cells.specs.Cells.{chart, Formed, below};
@@ -17,7 +19,7 @@ const UNMET: usize = sets::MOST_RULES + 1;
 pub const GOOD: usize = UNMET + 1;
 
 // A cell: the rank of its label, and its strip in each field. There is none if the rank is that of good.
-#[derive(Drop)]
+#[derive(Clone, Copy)]
 pub struct Best {
     pub rank: usize,
     pub strips: [usize; FIELDS],

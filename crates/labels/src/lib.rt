@@ -4,6 +4,8 @@
 // and over the directives for each action. No set is copied in a loop. Each contract says that the answer is what
 // `meaning` defines for what the values stand for, and so leaves one answer only.
 
+#![tactic(auto)]
+
 ghost use Rattle.std.specs.Prelude.{◌≡◌, min};
 ghost use Rattle.meaning.specs.Blocks.{holds};
 ghost use Rattle.meaning.specs.Form.{table_of, policy_of};
@@ -22,14 +24,14 @@ use sets::{Action, Directive, Exception, Label, Policy, Refusal, Rule, Rules};
 const MARKS: usize = sets::MOST_DIRECTIVES + 1;
 
 // What the label call gives: the label, or a refusal and beside it the label Good, whose kind and rule are 0.
-#[derive(Drop)]
+#[derive(Clone, Copy)]
 pub struct Labelled {
     pub refusal: Refusal,
     pub label: Label,
 }
 
 // The rule that decides a packet, with its number, or nothing.
-#[derive(Drop)]
+#[derive(Clone, Copy)]
 pub enum Decided {
     Nothing,
     By(u32, Rule),

@@ -2,6 +2,8 @@
 // limits of the sets, and stands once; `meaning`'s Sizes says of each what it follows from, and the proofs of the engine hold the two
 // to one value. Beside it what a mask is (specs/Masks), and the one loop that copies numbers from an array into another.
 
+#![tactic(auto)]
+
 ghost use Rattle.std.specs.Prelude.{◌≡◌, ◌+◌, ◌≤◌, length};
 ghost use Rattle.std.proofs.lemmas.List.Edits.{sets};
 

@@ -4,6 +4,8 @@
 // length the place behind it, `behind`, so that no line is gone through twice to find its end. A line is handed back as a part of the
 // caller's text, its address promised too. Every call answers for every place, number and length.
 
+#![tactic(auto)]
+
 ghost use Rattle.std.specs.Prelude.{◌≡◌};
 ghost use Rattle.contracts.specs.Answers.{seen};
 ghost use Rattle.parts.specs.Parts.{shown};
@@ -16,14 +18,14 @@ pub const NEWLINE: u8 = b'\n';
 const LAST_PLACE: usize = 18446744073709551615;
 
 // Where reading stands in a text: the next place, and the number of the line there.
-#[derive(Drop)]
+#[derive(Clone, Copy)]
 pub struct Cursor {
     pub at: usize,
     pub line: u32,
 }
 
 // A reader: the lent text, the next place, and the number of the line there.
-#[derive(Drop)]
+#[derive(Clone, Copy)]
 pub struct Lines<'a> {
     pub text: &'a [u8],
     pub at: usize,

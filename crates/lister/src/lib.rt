@@ -3,6 +3,8 @@
 // any case. Nothing is listed where nothing is left. It works on masks and strips by number; the places of the strips give a row
 // its bounds.
 
+#![tactic(auto)]
+
 ghost use Rattle.std.specs.Prelude.{List, [], ◌∷◌, ◌++◌, map, ◌≡◌, ℕ, ◌+◌, ◌-◌, ◌*◌, ◌^◌, ◌≤◌, ◌<◌, length, get_or};
 ghost use Rattle.meaning.specs.Sizes.{field_count, field_places};
 ghost use Rattle.blocks.specs.Vocabulary.{span_of};

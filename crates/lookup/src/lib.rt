@@ -2,6 +2,8 @@
 // read: a record is any line whose first field is the word, well formed or not, in a text of any length. The contract says which part
 // it is, its address too, for every text and number.
 
+#![tactic(auto)]
+
 ghost use Rattle.std.specs.Prelude.{◌≡◌, ◌<◌, length};
 ghost use Rattle.contracts.specs.Answers.{seen};
 ghost use Rattle.parts.specs.Parts.{shown};
@@ -10,7 +12,7 @@ ghost use Rattle.lookup.specs.Lookups.{record_of, word_of, text_of};
 use lines::Cursor;
 
 // Which of the two texts is meant.
-#[derive(Drop)]
+#[derive(Clone, Copy)]
 pub enum Which {
     Rules,
     Policy,

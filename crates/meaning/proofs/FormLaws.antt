@@ -178,13 +178,13 @@ form_enclosing ns s t =
     (λ k d e. let n : suc k ≡ 1 + k = omega arith in subst (λ (j : ℕ). numbered ds j ≡ some d) n e)
 
 -- Such a directive asks something of a packet just if its block holds it: both readings of document 000's 4.3 are the same.
-some_holds : (bs : List Block) (b : Block) (p : Packet) → Every (λ c. T (inside c b)) bs → T (some_of (λ (c : Block). holds c p) bs) → Holds b p
+some_holds : (b : Block) (bs : List Block) (p : Packet) → Every (λ c. T (inside c b)) bs → T (some_of (λ (c : Block). holds c p) bs) → Holds b p
 unfolding some_of
-some_holds bs b p every_none t = absurd t
-some_holds bs b p (every_more {x = c} {xs = cs} i e) t =
+some_holds b bs p every_none t = absurd t
+some_holds b bs p (every_more {x = c} {xs = cs} i e) t =
     elim (tested (holds c p)) [
       | yes h ↦ inside_holds c b p i h
-      | no h ↦ some_holds cs b p e (second (holds c p) (some_of (λ (x : Block). holds x p) cs) h t)
+      | no h ↦ some_holds b cs p e (second (holds c p) (some_of (λ (x : Block). holds x p) cs) h t)
     ]
 
 asks_one : (a : Action) → T (same_action accept a) ⊎ T (same_action deny a)
@@ -200,7 +200,7 @@ module _ (d : Directive) (p : Packet) where
   unfolding asks excepted
   asked_holds e a t =
       elim (tested (excepted d p)) [
-        | yes x ↦ some_holds d.exceptions d.block p e x
+        | yes x ↦ some_holds d.block d.exceptions p e x
         | no x ↦ right (same_action a d.action) (holds d.block p) (rw (failed (excepted d p) x) at t)
       ]
 

@@ -2,6 +2,8 @@
 // not past the largest that its place allows; nothing wraps, however many digits there are. The contracts say that each answer is
 // what specs/ defines for the bytes, for every text.
 
+#![tactic(auto)]
+
 ghost use Rattle.std.specs.Prelude.{◌≡◌};
 ghost use Rattle.parts.specs.Parts.{part, same};
 ghost use Rattle.parts.specs.Words.{bytes};
@@ -11,7 +13,7 @@ ghost use Rattle.numbers.specs.Intervals.{single, range, interval_of};
 use blocks::Span;
 
 // The number that a text is, if it reads.
-#[derive(Drop)]
+#[derive(Clone, Copy)]
 pub enum Number {
     Is(u32),
     Unread,
@@ -19,7 +21,7 @@ pub enum Number {
 
 // The bounds that a field gives; that it does not read; or that it reads, but not as a span: the bounds fall, a prefix has bits past
 // its length, or a mask is not ones and then zeros.
-#[derive(Drop)]
+#[derive(Clone, Copy)]
 pub enum Bounds {
     Are(Span),
     Unread,

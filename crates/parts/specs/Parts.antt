@@ -37,7 +37,7 @@ piece sep xs n = get_or (pieces sep xs) n (record { place = length xs; bytes = [
 
 -- a piece as a part of the caller's slice: the same memory, from the piece's place on
 abbrev pub shown : Bor (List ℕ) → Piece → Seen
-shown s p = ((s.ptr.0, p.place + s.ptr.1), p.bytes)
+shown s p = ((s.ref_ptr.0, p.place + s.ref_ptr.1), p.bytes)
 
 -- the same bytes
 abbrev pub same : List ℕ → List ℕ → Bool

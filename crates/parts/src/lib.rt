@@ -2,6 +2,8 @@
 // back as a part of the caller's slice, its address promised too, and the fields of a line are such parts. Every call answers for
 // every text, separator and number; the contracts say that the answer is what specs/ defines for the bytes.
 
+#![tactic(auto)]
+
 ghost use Rattle.std.specs.Prelude.{◌≡◌, ◌+◌, ◌≤◌, length, drop};
 ghost use Rattle.parts.specs.Parts.{parts, part, piece, shown, same};
 ghost use Rattle.contracts.specs.Answers.{seen};

@@ -2,6 +2,8 @@
 // nearest directive above it, or the first refusal by number, line and field and the empty set. Its contract says that the answer is
 // what specs/PolicyTexts defines for the bytes. What was read is in form and zero past its counts (proofs/Formed).
 
+#![tactic(auto)]
+
 ghost use Rattle.std.specs.Prelude.{◌≡◌, ◌≤◌, ◌<◌, length};
 ghost use Rattle.meaning.specs.Form.{most_directives, most_exceptions};
 ghost use Rattle.texts.specs.Texts.{most_bytes, lines_of, read_from};
@@ -18,14 +20,14 @@ use sets::{Directive, Exception, MOST_DIRECTIVES, MOST_EXCEPTIONS, Policy, Refus
 const BUT_FIELDS: usize = 1 + FIELDS;
 
 // What reading hands back: the refusal, all zeros if there is none, and the policy, an empty one if there is one.
-#[derive(Drop)]
+#[derive(Clone, Copy)]
 pub struct PolicyRead {
     pub refusal: Refusal,
     pub policy: Policy,
 }
 
 // What a line says: nothing, a directive, an exception's block, or the number and the field of a refusal.
-#[derive(Drop)]
+#[derive(Clone, Copy)]
 enum PolicyLine {
     Skipped,
     Ask(Directive),

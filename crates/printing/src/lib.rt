@@ -2,6 +2,8 @@
 // is room, and gives the place behind it. Each contract says which bytes these are (specs/Lines); that every other byte of the
 // buffer stays, and so one outcome is left, is what `putting` says of every text that is put.
 
+#![tactic(auto)]
+
 ghost use Rattle.std.specs.Prelude.{[], ◌∷◌};
 ghost use Rattle.blocks.specs.Vocabulary.{span_of, block_of, packet_of};
 ghost use Rattle.sets.specs.Vocabulary.{label_of, refusal_of};

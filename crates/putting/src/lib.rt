@@ -2,6 +2,8 @@
 // on, as far as there is room, and gives the place behind them. Each contract says which bytes these are (specs/Spelling) and that
 // every other byte of the buffer stays (specs/Putting), and so leaves one outcome only.
 
+#![tactic(auto)]
+
 ghost use Rattle.std.specs.Prelude.{[], ◌∷◌, ◌≡◌, ◌%◌};
 ghost use Rattle.parts.specs.Words.{dot};
 ghost use Rattle.putting.specs.Putting.{Put};

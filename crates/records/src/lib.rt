@@ -3,6 +3,8 @@
 // A field that is refused is told by its number of refusal and its place in the line, the first from the left. The contracts say
 // that each answer is what specs/ defines for the bytes, for every line.
 
+#![tactic(auto)]
+
 ghost use Rattle.std.specs.Prelude.{◌≡◌, get_or};
 ghost use Rattle.records.specs.Services.{protocol_of, port_of};
 ghost use Rattle.records.specs.Readers.{check, port_reader, readers};
@@ -17,28 +19,28 @@ use sets::Action;
 const RECORD_FIELDS: usize = 2 + FIELDS;
 
 // An action, if one reads.
-#[derive(Drop)]
+#[derive(Clone, Copy)]
 pub enum ActionRead {
     Is(Action),
     Unread,
 }
 
 // The span of a field, or the number by which it is refused.
-#[derive(Drop)]
+#[derive(Clone, Copy)]
 enum Checked {
     Is(Span),
     Not(u32),
 }
 
 // A block, or the number and the field of the first refusal.
-#[derive(Drop)]
+#[derive(Clone, Copy)]
 pub enum BlockRead {
     Is(Block),
     Not(u32, u32),
 }
 
 // What a rule and a directive have in common, or the number and the field of the first refusal.
-#[derive(Drop)]
+#[derive(Clone, Copy)]
 pub enum RecordRead {
     Are(Action, Block),
     Not(u32, u32),

@@ -2,6 +2,8 @@
 // Its contract says that the output is what document 01's "One whole run" says of the two files (specs/Runs), for every pair of
 // files, and leaves one output only. So of the program just the calls to the system are left unproved.
 
+#![tactic(auto)]
+
 ghost use Rattle.std.specs.Prelude.{◌≡◌, ◌+◌, ◌*◌, ◌≤◌, min, length};
 ghost use Rattle.meaning.specs.Sizes.{block_bounds, row_numbers};
 ghost use Rattle.bounds.specs.SetBlocks.{Limited};

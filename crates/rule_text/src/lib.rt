@@ -2,6 +2,8 @@
 // line and field and the empty set. Its contract says that the answer is what specs/RuleTexts defines for the bytes. What was read
 // is in form and zero past its count (proofs/Formed).
 
+#![tactic(auto)]
+
 ghost use Rattle.std.specs.Prelude.{[], ◌≡◌, ◌≤◌, ◌<◌, length};
 ghost use Rattle.meaning.specs.Form.{most_rules};
 ghost use Rattle.texts.specs.Texts.{most_bytes, lines_of, read_from};
@@ -13,14 +15,14 @@ use records::RecordRead;
 use sets::{MOST_RULES, Refusal, Rule, Rules};
 
 // What reading hands back: the refusal, all zeros if there is none, and the rules, none if there is one.
-#[derive(Drop)]
+#[derive(Clone, Copy)]
 pub struct RulesRead {
     pub refusal: Refusal,
     pub rules: Rules,
 }
 
 // What a line says: nothing, a rule, or the number and the field of a refusal.
-#[derive(Drop)]
+#[derive(Clone, Copy)]
 enum RuleLine {
     Skipped,
     Is(Rule),

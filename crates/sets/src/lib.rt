@@ -2,6 +2,8 @@
 // and a count; records past the count are not looked at. specs/Vocabulary says what each value stands for in `meaning`, specs/Empty
 // what the empty sets are, and each contract says the answer in those words, and so leaves one answer only.
 
+#![tactic(auto)]
+
 ghost use Rattle.std.specs.Prelude.{◌≡◌};
 ghost use Rattle.meaning.specs.Labels.{kind, rule};
 ghost use Rattle.sets.specs.Vocabulary.{label_of};
@@ -17,40 +19,40 @@ pub const MOST_DIRECTIVES: usize = 32;
 pub const MOST_EXCEPTIONS: usize = 64;
 
 // What a rule does, and what a directive asks for. Deny stands first: it is the zero record's action.
-#[derive(Drop)]
+#[derive(Clone, Copy)]
 pub enum Action {
     Deny,
     Accept,
 }
 
-#[derive(Drop)]
+#[derive(Clone, Copy)]
 pub struct Rule {
     pub action: Action,
     pub block: Block,
 }
 
 // A rule table: its rules are numbered from 1 and stand in the records from 0 on.
-#[derive(Drop)]
+#[derive(Clone, Copy)]
 pub struct Rules {
     pub count: usize,
     pub records: [Rule; MOST_RULES],
 }
 
 // A directive without its exceptions.
-#[derive(Drop)]
+#[derive(Clone, Copy)]
 pub struct Directive {
     pub action: Action,
     pub block: Block,
 }
 
 // An exception of the directive with this number, counted from 1.
-#[derive(Drop)]
+#[derive(Clone, Copy)]
 pub struct Exception {
     pub directive: u32,
     pub block: Block,
 }
 
-#[derive(Drop)]
+#[derive(Clone, Copy)]
 pub struct Policy {
     pub directive_count: usize,
     pub directives: [Directive; MOST_DIRECTIVES],
@@ -59,7 +61,7 @@ pub struct Policy {
 }
 
 // A packet's label. Wrong and Unasked carry the number of the deciding rule.
-#[derive(Drop)]
+#[derive(Clone, Copy)]
 pub enum Label {
     Good,
     Conflict,
@@ -70,7 +72,7 @@ pub enum Label {
 }
 
 // Why a call gave no answer; all zeros if it gave one.
-#[derive(Drop)]
+#[derive(Clone, Copy)]
 pub struct Refusal {
     pub number: u32,
     pub line: u32,

@@ -2,6 +2,8 @@
 // reading line by line stands in specs/Texts, for every kind of line, and its laws in proofs/Reading; the readers of the rule table and of
 // the policy are two uses of it. The contract says that the answer is what specs/ defines for the bytes, for every text.
 
+#![tactic(auto)]
+
 ghost use Rattle.std.specs.Prelude.{◌≡◌};
 ghost use Rattle.texts.specs.Texts.{unended, refuse_text};
 

@@ -6,7 +6,7 @@ use crate::requests::MOST_BYTES;
 use libc::STDIN_FILENO;
 
 // The bytes of a buffer from start up to end.
-#[derive(Drop)]
+#[derive(Clone, Copy)]
 pub(crate) struct Unread {
     pub(crate) start: usize,
     pub(crate) end: usize,

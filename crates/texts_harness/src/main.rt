@@ -4,6 +4,8 @@
 // answers of an independent program to them, with which a check compares what is answered here; that program writes both anew,
 // and they are not kept. The functions are proved safe and ending for every input, not more.
 
+#![tactic(auto)]
+
 mod answers;
 mod arguments;
 mod input;

@@ -6,7 +6,7 @@ use blocks::{Block, Span};
 use sets::{Action, MOST_DIRECTIVES, MOST_EXCEPTIONS, MOST_RULES, Policy, Refusal, Rules};
 
 // An answer about a set as far as it is made: how many bytes it has, and how many records past the count were not zeros.
-#[derive(Drop)]
+#[derive(Clone, Copy)]
 pub(crate) struct Told {
     length: usize,
     past: usize,

@@ -16,7 +16,7 @@ pub(crate) const MOST_BYTES: usize = 65664;
 const MOST_NUMBERS: usize = 4;
 
 // What a header says, and how many bytes it has: 0 if there is no header. Numbers that it lacks are 0.
-#[derive(Drop)]
+#[derive(Clone, Copy)]
 pub(crate) struct Request {
     pub(crate) header: usize,
     pub(crate) letter: u8,
@@ -27,7 +27,7 @@ pub(crate) struct Request {
 }
 
 // A number of a header, and where it ends.
-#[derive(Drop)]
+#[derive(Clone, Copy)]
 struct Number {
     value: usize,
     end: usize,

@@ -2,13 +2,15 @@
 // what is refused, or which file cannot be read. The output is made by `report`, whose contract says that it is document 01's run
 // for the bytes that were read. What is left here are the calls to the system, of which nothing can be proved.
 
+#![tactic(auto)]
+
 ghost use Rattle.std.specs.Prelude.{◌≤◌, length};
 
 use libc::STDOUT_FILENO;
 use report::{MOST_OUTPUT, MOST_READ};
 
 // How much was read of a file, and whether it could be read.
-#[derive(Drop)]
+#[derive(Clone, Copy)]
 struct FileRead {
     is_read: bool,
     length: usize,
