@@ -1,3 +1,2 @@
-mod Holding
 pub mod Stepping
 pub mod OneAnswer

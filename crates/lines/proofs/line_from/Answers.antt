@@ -24,7 +24,7 @@ returns-then-at-end c =
     let left : take (length text.now - at) (drop at text.now) ≡ drop at text.now = take_all (length text.now - at) (drop at text.now) (omega (arith, length-drop at text.now)) in
     let place : 0 + (at + text.ref_ptr.1) ≡ min at (length text.now) + text.ref_ptr.1 = omega arith in
     c.part.ensures
-    ∙ ap (λ (xs : List ℕ). shown (record { ref_ptr = (text.ptr.0, at + text.ptr.1); now = xs }) (piece 10 xs 0)) left
+    ∙ ap (λ (xs : List ℕ). shown (record { ref_ptr = (text.ref_ptr.0, at + text.ref_ptr.1); now = xs }) (piece 10 xs 0)) left
     ∙ ap (shown (record { ref_ptr = (text.ref_ptr.0, at + text.ref_ptr.1); now = drop at text.now })) (first_piece 10 (drop at text.now))
     ∙ ap (λ (n : ℕ). ((text.ref_ptr.0, n), part 10 (drop at text.now) 0)) place
 
