@@ -1,0 +1,26 @@
+use mathlib.Core.Path.{◌≡◌, refl}
+use Prim.Native.Nat.{◌-◌}
+use native.Mathlib.Omega.{arith}
+use borrow.Author.Rules.{rules}
+use lib.ListN.{length}
+use Rattle.meaning.specs.Rules.{Rule}
+use Rattle.meaning.specs.Form.{most_rules}
+use Rattle.sets.proofs.Walks.{length_of_map}
+use Rattle.sets.specs.Vocabulary.{rule_of}
+use Rattle.bounds.proofs.BlockWalk.{StoredUpTo, blocks_end, blocks_more, blocks_start}
+use Rattle.bounds.proofs.put_rules.Goals as goal
+
+pub loop-i-init : goal.loop-i-init
+loop-i-init c = blocks_start _ _ _ _ _ _
+
+pub loop-i-preserved : goal.loop-i-preserved
+loop-i-preserved c =
+    let records = c.args.rules.records in
+    let full : length records ≡ most_rules = search (rules, length_of_map) in
+    blocks_more _ _ _ _ (omega arith) (λ a. refl) _ _ _ c.loop-i-test.true (omega arith)
+    c.put_block.ensures c.loop-i.invariant
+
+pub returns : goal.returns
+returns c =
+    let full : length c.args.rules.records ≡ most_rules = search (rules, length_of_map) in
+    blocks_end _ _ _ _ (omega arith) (omega arith) c.loop-i.invariant

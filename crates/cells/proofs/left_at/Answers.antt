@@ -1,0 +1,9 @@
+-- The digits that both have.
+use mathlib.Core.Path.{refl}
+use borrow.Author.Rules.{rules}
+use Rattle.cells.specs.Cells.{left_at}
+use Rattle.cells.proofs.left_at.Goals as goal
+
+pub returns : goal.returns
+unfolding left_at
+returns c = refl

@@ -1,0 +1,31 @@
+use native.Mathlib.Omega.{arith}
+use Prim.Native.Nat.{◌+◌, ◌-◌}
+use borrow.Author.Rules.{rules}
+use Rattle.meaning.specs.Sizes.{field_count}
+use Rattle.records.proofs.Fieldwise.{has_read, Read, read_none, read_more, read_stop, read_all}
+use Rattle.records.proofs.read_block.Goals as goal
+
+pub loop-i-init : goal.loop-i-init
+loop-i-init c = read_none c.args.line.now c.args.k
+
+pub returns-in-Not : goal.returns-in-Not
+returns-in-Not c =
+    let at = c.loop-i in
+    let a = c.args in
+    let is = c.in-Not.is in
+    let said = has_read a.line c.field.result at.i (a.k + at.i) _ _ c.field.ensures c.read_field.ensures is in
+    read_stop a.line.now a.k at.i at.bounds at.invariant _ (omega arith) said
+
+pub loop-i-preserved : goal.loop-i-preserved
+loop-i-preserved c =
+    let at = c.loop-i in
+    let a = c.args in
+    let is = c.in-Is.is in
+    let said = has_read a.line c.field.result at.i (a.k + at.i) _ _ c.field.ensures c.read_field.ensures is in
+    read_more a.line.now a.k at.i at.bounds at.invariant _ (omega arith) said
+
+pub returns : goal.returns
+returns c =
+    let at = c.loop-i in
+    let a = c.args in
+    read_all a.line.now a.k at.i at.bounds at.invariant _ (omega arith) c.of_bounds.ensures
