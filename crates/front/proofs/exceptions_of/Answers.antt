@@ -1,0 +1,33 @@
+use mathlib.Core.Path.{◌≡◌}
+use native.Mathlib.Omega.{arith}
+use borrow.Author.Rules.{rules}
+use lib.Dec.{eqb}
+use lib.ListN.{length}
+use Rattle.meaning.specs.Form.{Exception, most_exceptions}
+use Rattle.sets.proofs.Walks.{length_of_map}
+use Rattle.sets.specs.Vocabulary.{exception_of}
+use Rattle.front.proofs.MaskWalk.{MaskFrom, mask_end, mask_more, mask_room, mask_start}
+use Rattle.front.proofs.exceptions_of.Goals as goal
+
+pub loop-i-init : goal.loop-i-init
+loop-i-init c = mask_start _ _ _ _
+
+pub overflow_mul-mask : goal.overflow_mul-mask
+overflow_mul-mask c =
+    let full : length c.args.policy.exceptions ≡ most_exceptions = search (rules, length_of_map) in
+    let room = mask_room _ _ _ _ (omega arith) _ _ _ _ (omega arith) c.loop-i.invariant c.named.ensures (omega arith) in
+    omega (arith, room)
+
+pub overflow_add-mask : goal.overflow_add-mask
+overflow_add-mask c =
+    let full : length c.args.policy.exceptions ≡ most_exceptions = search (rules, length_of_map) in
+    let room = mask_room _ _ _ _ (omega arith) _ _ _ _ (omega arith) c.loop-i.invariant c.named.ensures (omega arith) in
+    omega (arith, room)
+
+pub loop-i-preserved : goal.loop-i-preserved
+loop-i-preserved c =
+    let full : length c.args.policy.exceptions ≡ most_exceptions = search (rules, length_of_map) in
+    mask_more _ _ _ _ (omega arith) _ _ _ _ (omega arith) c.loop-i.invariant c.named.ensures
+
+pub returns : goal.returns
+returns c = mask_end _ _ _ _ (omega arith) c.loop-i.invariant

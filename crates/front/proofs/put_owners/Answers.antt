@@ -1,0 +1,14 @@
+use Prim.Native.Nat.{◌-◌}
+use borrow.Author.Rules.{rules}
+use Rattle.sets.specs.Inner.{exceptions_of}
+use Rattle.front.proofs.FrontWords.{OwnersUpTo, owners_end, owners_more, owners_start}
+use Rattle.front.proofs.put_owners.Goals as goal
+
+pub loop-i-init : goal.loop-i-init
+loop-i-init c = owners_start _ _ _
+
+pub loop-i-preserved : goal.loop-i-preserved
+loop-i-preserved c = owners_more _ _ _ _ _ _ c.loop-i-test.true c.exceptions_of.ensures c.loop-i.invariant
+
+pub returns : goal.returns
+returns c = owners_end _ _ _ _ _ c.loop-i-test.false c.loop-i.invariant

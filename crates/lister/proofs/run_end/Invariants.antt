@@ -1,0 +1,14 @@
+-- It goes from strip to strip while they are alike.
+use Prim.Native.Nat.{◌-◌}
+use native.Mathlib.Omega.{arith}
+use borrow.Author.Rules.{rules}
+use Rattle.cells.proofs.Telling.{told_false, told_true}
+use Rattle.cells.specs.Cells.{chart}
+use Rattle.lister.proofs.Ending.{Reached, reached_end, reached_more, reached_start, reached_stop}
+use Rattle.lister.proofs.run_end.Given as goal
+
+abbrev pub invariant-loop-next : goal.invariant-loop-next
+invariant-loop-next l = Reached (chart l.words l.counts) l.field l.left l.end l.strip l.next l.before
+
+abbrev pub decreases-loop-next : goal.decreases-loop-next
+decreases-loop-next l = l.end - l.next

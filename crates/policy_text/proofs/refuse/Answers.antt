@@ -1,0 +1,6 @@
+-- The empty set is the set of nothing asked. Assumes nothing.
+use borrow.Author.Rules.{rules}
+use Rattle.policy_text.proofs.refuse.Goals as goal
+
+pub returns : goal.returns
+returns c = λ i. record { refusal = c.args.refusal; policy = c.empty-policy.ensures i }
