@@ -1,0 +1,25 @@
+-- The numbers of the blocks, the front of the words, and behind it the charts of the fields. Assumes nothing.
+use native.Mathlib.Omega.{arith}
+use borrow.Author.Rules.{rules}
+use lib.ListN.{take}
+use lib.Seq.{length-take-le}
+use Rattle.meaning.specs.Sizes.{front_words}
+use Rattle.charts.proofs.FieldWalk.{all_behind}
+use Rattle.charts.proofs.chart.Goals as goal
+
+pub returns : goal.returns
+returns c =
+    let blocks-put = c.put_blocks in
+    let front-put = c.put_front in
+    let fields-put = c.chart_fields in
+    record {
+      counted = blocks-put.ensures.0;
+      numbers = _;
+      numbered = blocks-put.ensures.1;
+      front = take front_words front-put.new.1.1.0;
+      front_long = length-take-le front_words front-put.new.1.1.0 (omega (arith, c.requires.words_len.0, c.words-1.given));
+      masks = fields-put.new.1.1.1.1.0;
+      words_are = all_behind front-put.new.1.1.0 fields-put.new.1.1.1.1.0 front_words;
+      front_words_lem = front-put.ensures;
+      each_field = fields-put.ensures;
+    }

@@ -1,0 +1,11 @@
+-- By the widest block. Assumes nothing.
+use mathlib.Core.Path.{◌∙◌, ap}
+use borrow.Author.Rules.{rules}
+use Rattle.meaning.specs.Buffers.{bounds}
+use Rattle.charts.proofs.FieldSizes.{size_is}
+use Rattle.charts.proofs.size_of.Goals as goal
+
+pub returns : goal.returns
+returns c =
+    let widest = c.bounds-widest.ensures ∙ ap bounds c.widest.ensures in
+    c.number_above.ensures ∙ size_is _ _ widest c.requires

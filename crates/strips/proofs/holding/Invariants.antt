@@ -1,0 +1,13 @@
+-- The invariant: the mask is that of the spans from block j on. Assumes nothing.
+use mathlib.Core.Path.{refl}
+use Prim.Native.Nat.{◌+◌, ◌≤◌}
+use native.Mathlib.Omega.{arith}
+use borrow.Author.Rules.{rules}
+use Rattle.strips.proofs.SpanMasks.{HoldingFrom, holding_room, holding_start, holding_next, holding_end}
+use Rattle.strips.proofs.holding.Given as goal
+
+abbrev pub invariant-loop-j : goal.invariant-loop-j
+invariant-loop-j l = (l.first ≤ l.j) × (l.j ≤ l.first + l.count) × HoldingFrom l.numbers l.field l.x (l.first + l.count) l.j l.mask
+
+abbrev pub decreases-loop-j : goal.decreases-loop-j
+decreases-loop-j l = l.j
