@@ -106,6 +106,18 @@ BEFORE = [
     ("crates/lines/proofs/Stepping", "place_after", "place_after_lem"),
     ("crates/lookup/proofs/Seeking", "place_after", "place_after_lem"),
 ]
+# Fields of records whose plain spelling is that of a word: of another record's field, which is no matter, or of one in their own types.
+FIELDS = {
+    "accept-directive": "accept_directive",
+    "deny-directive": "deny_directive",
+    "directive-count": "directive_count",
+    "exception-count": "exception_count",
+    "accepting-rules": "accepting_rules_word",
+    "accepting-directives": "accepting_directives_word",
+    "of-accepting": "of_accepting_word",
+    "of-denying": "of_denying_word",
+    "front-words": "words_of_front",
+}
 # A function's proof that a text names for short.
 ALIAS = re.compile(r"(\buse Rattle\.[\w.]+\.Reads as )(\S+)")
 
@@ -150,11 +162,11 @@ def main():
             there.update(code_names(text, bare=True))
     for old in sorted(table):
         if "-" in old and (table[old] in there or any(table[o] == table[old] for o in table if o != old)):
-            table[old] += "_lem"
+            table[old] = FIELDS.get(old, table[old] + "_lem")
     met = collections.defaultdict(set)
     for old, new in table.items():
         met[new].add(old)
-        if new in there:
+        if new in there and old not in FIELDS:
             met[new].add(new)
     # a field and a word of other crates
     met.pop("asked_by", None)

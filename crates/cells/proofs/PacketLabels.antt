@@ -50,7 +50,7 @@ module _
     -- the directives that hold p and ask for accept, and for deny
     own_accept : accepting words here ≡ mask (λ (d : Rule). same_action accept d.action && holds d.block p) directives
     own_accept =
-        ap (bit_and here.directives) front.accepting_directives_lem
+        ap (bit_and here.directives) front.accepting_directives_word
         ∙ mask_and (λ (d : Rule). holds d.block p) accepts directives
         ∙ mask_same (every_of (λ d. by (holds d.block p) (accepts d)) directives)
       where
@@ -89,7 +89,7 @@ module _
     unfolding same_action opposite
     accept_is =
         asked_by_masks p accept words directives exceptions (get_or words of_denying 0) (accepting words here) few_directives front.of_each
-        (turned accept (get_or words of_denying 0) (λ (d : Rule). not (accepts d)) front.of_denying_lem (λ d. by d.action)) own_accept
+        (turned accept (get_or words of_denying 0) (λ (d : Rule). not (accepts d)) front.of_denying_word (λ d. by d.action)) own_accept
       where
         by : (a : Action) → not (same_action accept a) ≡ same_action accept (opposite a)
         by accept = refl
@@ -99,7 +99,7 @@ module _
     unfolding same_action opposite
     deny_is =
         asked_by_masks p deny words directives exceptions (get_or words of_accepting 0) (bit_xor here.directives (accepting words here)) few_directives front.of_each
-        (turned deny (get_or words of_accepting 0) accepts front.of_accepting_lem (λ d. by d.action)) own_deny
+        (turned deny (get_or words of_accepting 0) accepts front.of_accepting_word (λ d. by d.action)) own_deny
       where
         by : (a : Action) → same_action accept a ≡ same_action deny (opposite a)
         by accept = refl
@@ -108,7 +108,7 @@ module _
     first_is : decided mask_digits 1 here.rules (bit_and here.rules (get_or words accepting_rules 0)) ≡ bared (deciding rules p)
     unfolding deciding
     first_is =
-        ap (decided mask_digits 1 here.rules) (ap (bit_and here.rules) front.accepting_rules_lem ∙ mask_and (λ (r : Rule). holds r.block p) accepts rules)
+        ap (decided mask_digits 1 here.rules) (ap (bit_and here.rules) front.accepting_rules_word ∙ mask_and (λ (r : Rule). holds r.block p) accepts rules)
         ∙ first_decided mask_digits 1 (λ (r : Rule). holds r.block p) rules few_rules
 
     pub packet_label : left_label words here ≡ label rules (record { directives = all }) p

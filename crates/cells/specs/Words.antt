@@ -16,8 +16,8 @@ names_such test n (d ∷ ds) j = (eqb j n && test d) || names_such test (suc n) 
 
 -- the front words of a walk for these rules, directives and exceptions
 pub record WordsOf (rules directives : List Rule) (exceptions : List Exception) (words : List ℕ) : Type 0 where
-  pub accepting_rules_lem : get_or words accepting_rules 0 ≡ mask accepts rules
-  pub accepting_directives_lem : get_or words accepting_directives 0 ≡ mask accepts directives
-  pub of_accepting_lem : get_or words of_accepting 0 ≡ mask (λ (e : Exception). names_such accepts 1 directives e.directive) exceptions
-  pub of_denying_lem : get_or words of_denying 0 ≡ mask (λ (e : Exception). names_such (λ (d : Rule). not (accepts d)) 1 directives e.directive) exceptions
+  pub accepting_rules_word : get_or words accepting_rules 0 ≡ mask accepts rules
+  pub accepting_directives_word : get_or words accepting_directives 0 ≡ mask accepts directives
+  pub of_accepting_word : get_or words of_accepting 0 ≡ mask (λ (e : Exception). names_such accepts 1 directives e.directive) exceptions
+  pub of_denying_word : get_or words of_denying 0 ≡ mask (λ (e : Exception). names_such (λ (d : Rule). not (accepts d)) 1 directives e.directive) exceptions
   pub of_each : (t : ℕ) → t < length directives → get_or words (first_owner + t) 0 ≡ mask (λ (e : Exception). eqb e.directive (suc t)) exceptions

@@ -35,10 +35,10 @@ words_in_front : (rs ds : List rules.Rule) (es : List form.Exception) (front mas
     → WordsOf rs ds es (front ++ masks)
 words_in_front rs ds es front masks long few w =
     record {
-      accepting_rules_lem = get_or-append front masks 0 accepting_rules (omega arith) ∙ w.accepting_rules_lem;
-      accepting_directives_lem = get_or-append front masks 0 accepting_directives (omega arith) ∙ w.accepting_directives_lem;
-      of_accepting_lem = get_or-append front masks 0 of_accepting (omega arith) ∙ w.of_accepting_lem;
-      of_denying_lem = get_or-append front masks 0 of_denying (omega arith) ∙ w.of_denying_lem;
+      accepting_rules_word = get_or-append front masks 0 accepting_rules (omega arith) ∙ w.accepting_rules_word;
+      accepting_directives_word = get_or-append front masks 0 accepting_directives (omega arith) ∙ w.accepting_directives_word;
+      of_accepting_word = get_or-append front masks 0 of_accepting (omega arith) ∙ w.of_accepting_word;
+      of_denying_word = get_or-append front masks 0 of_denying (omega arith) ∙ w.of_denying_word;
       of_each = λ t h. get_or-append front masks 0 (first_owner + t) (omega arith) ∙ w.of_each t h;
     }
 
@@ -94,10 +94,10 @@ module _ {r : Rules} {p : Policy} {words counts places : List ℕ} (limited : Li
   directives_few = omega (arith, few_directives, length-map (directives_of p) (λ (x : rules.Rule). x.block))
 
   -- the words in front are those of the sets
-  front_words_lem : WordsOf (rules_of r) (directives_of p) (exceptions_of p) words
-  front_words_lem =
+  words_of_front : WordsOf (rules_of r) (directives_of p) (exceptions_of p) words
+  words_of_front =
       subst (WordsOf (rules_of r) (directives_of p) (exceptions_of p)) (sym c.words_are)
-      (words_in_front (rules_of r) (directives_of p) (exceptions_of p) c.front c.masks c.front_long directives_few c.front_words_lem)
+      (words_in_front (rules_of r) (directives_of p) (exceptions_of p) c.front c.masks c.front_long directives_few c.words_of_front)
 
   -- what is left in a cell holds each packet of it
   left_in_cell : {cell : List ℕ} {q : meant.Packet}
@@ -112,4 +112,4 @@ module _ {r : Rules} {p : Policy} {words counts places : List ℕ} (limited : Li
   cell_labels cell q lies =
       sym
       (ap (left_label words) (left_in_cell lies ∙ by_records q)
-      ∙ packet_label (rules_of r) (directives_of p) (exceptions_of p) words q rules_few directives_few front_words_lem)
+      ∙ packet_label (rules_of r) (directives_of p) (exceptions_of p) words q rules_few directives_few words_of_front)

@@ -30,5 +30,5 @@ pub record Charted (r : Rules) (p : Policy) (words counts places : List ℕ) : T
   pub front_long : length front ≡ front_words
   pub masks : List ℕ
   pub words_are : words ≡ front ++ masks
-  pub front_words_lem : WordsOf (rules_of r) (directives_of p) (exceptions_of p) front
+  pub words_of_front : WordsOf (rules_of r) (directives_of p) (exceptions_of p) front
   pub each_field : FieldsCharted numbers r.count p.directive_count p.exception_count 0 fields masks places counts

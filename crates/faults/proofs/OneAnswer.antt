@@ -44,8 +44,8 @@ verdict_once κs a r s after after' e f =
     record {
       refusal = one_refusal _ r.refusal s.refusal e.refusal f.refusal i;
       label = one_label _ r.label s.label (ap (λ (w : Verdict). w.label) v) refl i;
-      accept_directive = (v i).accept_directive_lem;
-      deny_directive = (v i).deny_directive_lem;
+      accept_directive = (v i).accept_directive;
+      deny_directive = (v i).deny_directive;
       packet = one_packet _ r.packet s.packet (ap (λ (w : Verdict). w.packet) v) refl i;
     }
 

@@ -18,7 +18,7 @@ refused rules policy = form.refuse_sets fields (rule_set_of rules) (policy_set_o
 -- the verdict that an answer tells
 abbrev pub verdict_of : Judged → verdicts.Verdict
 verdict_of r =
-    record { label = label_of r.label; accept_directive_lem = r.accept_directive; deny_directive_lem = r.deny_directive; packet = packet_of r.packet }
+    record { label = label_of r.label; accept_directive = r.accept_directive; deny_directive = r.deny_directive; packet = packet_of r.packet }
 
 -- what the verdict call answers: "14 with zeros elsewhere", or the verdict
 pub record JudgedAs (rules : Rules) (policy : Policy) (r : Judged) : Type 0 where

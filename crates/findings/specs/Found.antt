@@ -24,7 +24,7 @@ label_at rules policy = labels.label (form.table_of (rule_set_of rules)) (form.p
 -- what a verdict stands for
 abbrev pub verdict_of : Finding → verdicts.Verdict
 verdict_of r =
-    record { label = label_of r.label; accept_directive_lem = r.accept_directive; deny_directive_lem = r.deny_directive; packet = packet_of r.packet }
+    record { label = label_of r.label; accept_directive = r.accept_directive; deny_directive = r.deny_directive; packet = packet_of r.packet }
 
 -- v is the verdict on the table and the policy
 abbrev pub VerdictFor : Rules → Policy → verdicts.Verdict → Type 0

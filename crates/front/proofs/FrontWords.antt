@@ -161,8 +161,8 @@ module _ (p : Policy) where
   turned_end {i} {a} {b} past w =
       let all = take_all i (directives_of p) past in
       record {
-        of_accepting_lem = a;
-        of_denying_lem = b;
+        of_accepting_word = a;
+        of_denying_word = b;
         put = refl;
         are_accepting = w.are_accepting ∙ ap (such accepts (exceptions_of p)) all;
         are_denying = w.are_denying ∙ ap (such (λ (d : Rule). not (accepts d)) (exceptions_of p)) all;
@@ -309,10 +309,10 @@ module _ (l : List ℕ) (rules directives : List Rule) (exceptions : List Except
       → WordsOf rules directives exceptions (take front_words words)
   front_is is_a is_b is_c is_d =
       record {
-        accepting_rules_lem = first_word accepting_rules (omega arith) ∙ rules_word ∙ is_a;
-        accepting_directives_lem = first_word accepting_directives (omega arith) ∙ directives_word ∙ is_b;
-        of_accepting_lem = in_front of_accepting (omega arith) ∙ accepting_word ∙ is_c;
-        of_denying_lem = in_front of_denying (omega arith) ∙ denying_word ∙ is_d;
+        accepting_rules_word = first_word accepting_rules (omega arith) ∙ rules_word ∙ is_a;
+        accepting_directives_word = first_word accepting_directives (omega arith) ∙ directives_word ∙ is_b;
+        of_accepting_word = in_front of_accepting (omega arith) ∙ accepting_word ∙ is_c;
+        of_denying_word = in_front of_denying (omega arith) ∙ denying_word ∙ is_d;
         of_each = λ t h.
             in_front (first_owner + t) (omega arith) ∙ other_word (first_owner + t) (λ e. omega arith) (λ e. omega arith)
             ∙ owner_word k exceptions two behind t (omega arith);

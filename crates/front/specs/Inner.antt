@@ -23,8 +23,8 @@ OwnersPut p words = (t : ℕ) → t < p.directive_count → get_or words (first_
 
 -- the exceptions of the directives that accept, and of those that deny, are put in their words
 pub record TurningPut (p : Policy) (before after : List ℕ) : Type 0 where
-  pub of_accepting_lem : ℕ
-  pub of_denying_lem : ℕ
-  pub put : after ≡ set (set before of_accepting of_accepting_lem) of_denying of_denying_lem
-  pub are_accepting : of_accepting_lem ≡ mask (λ (e : Exception). names_such accepts 1 (directives_of p) e.directive) (exceptions_of p)
-  pub are_denying : of_denying_lem ≡ mask (λ (e : Exception). names_such (λ (d : Rule). not (accepts d)) 1 (directives_of p) e.directive) (exceptions_of p)
+  pub of_accepting_word : ℕ
+  pub of_denying_word : ℕ
+  pub put : after ≡ set (set before of_accepting of_accepting_word) of_denying of_denying_word
+  pub are_accepting : of_accepting_word ≡ mask (λ (e : Exception). names_such accepts 1 (directives_of p) e.directive) (exceptions_of p)
+  pub are_denying : of_denying_word ≡ mask (λ (e : Exception). names_such (λ (d : Rule). not (accepts d)) 1 (directives_of p) e.directive) (exceptions_of p)

@@ -12,7 +12,7 @@ use Rattle.contracts.proofs.Answering.{one_answer}
 use Rattle.lines.proofs.after.Reads as after_call
 use Rattle.lines.proofs.behind.Reads as behind_call
 use Rattle.lines.specs.contracts.current as current
-use Rattle.lines.proofs.line_at.Reads as line_at_lem_call
+use Rattle.lines.proofs.line_at.Reads as line_at_call
 use Rattle.lines.specs.contracts.next as next
 
 module _ (κs : Lfts 1) (a : Args current.signature κs) (r : Res current.signature κs) (s : AtExit current.ended κs) where
@@ -35,7 +35,7 @@ module _ (κs : Lfts 1) (a : Args next.signature κs) (r : Res next.signature κ
 pub next_once : OneAnswer NextPost
 next_once κs a r s after after' e f = one_answer _ r s e f
 
-pub line_at_once : OneSlice line_at_lem_call.Post
+pub line_at_once : OneSlice line_at_call.Post
 line_at_once κs a r s after after' e f = one_answer _ _ _ e f
 
 pub after_once : OneAnswer after_call.Post

@@ -95,9 +95,9 @@ rule_set = record { count = 3; records = rules4 }
 abbrev policy_set : PolicySet
 policy_set =
     record {
-      directive_count_lem = 1;
+      directive_count = 1;
       directives = record { action = accept; block = directive1.block } ∷ [];
-      exception_count_lem = 1;
+      exception_count = 1;
       exceptions = record { directive = 1; block = block8443 handsets (only (quad 10 30 0 6)) } ∷ [];
     }
 
@@ -111,7 +111,7 @@ run_sets = (refl, refl)
 
 -- "An empty table and an empty policy are in form; both empty conform."
 pub empty_in_form : (ns : List ℕ)
-    → T (rules_in_form ns (record { count = 0; records = [] }) && policy_in_form ns (record { directive_count_lem = 0; directives = []; exception_count_lem = 0; exceptions = [] }))
+    → T (rules_in_form ns (record { count = 0; records = [] }) && policy_in_form ns (record { directive_count = 0; directives = []; exception_count = 0; exceptions = [] }))
 unfolding rules_in_form policy_in_form exceptions_in_form all_of
 empty_in_form ns = tt
 

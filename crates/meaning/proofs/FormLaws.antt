@@ -82,17 +82,17 @@ rules_in_form_iff ns s =
 
 pub policy_in_form_iff : (ns : List ℕ) (s : PolicySet)
     → T (policy_in_form ns s)
-    ↔ ((s.directive_count_lem ≤ 32)
-    × (s.exception_count_lem ≤ 64)
-    × Every (λ d. T (block_in_form ns d.block)) (take s.directive_count_lem s.directives)
-    × T (exceptions_in_form ns (take s.directive_count_lem s.directives) 0 (take s.exception_count_lem s.exceptions)))
+    ↔ ((s.directive_count ≤ 32)
+    × (s.exception_count ≤ 64)
+    × Every (λ d. T (block_in_form ns d.block)) (take s.directive_count s.directives)
+    × T (exceptions_in_form ns (take s.directive_count s.directives) 0 (take s.exception_count s.exceptions)))
 unfolding policy_in_form
 policy_in_form_iff ns s =
-    let ds = take s.directive_count_lem s.directives in
-    let few = leb s.directive_count_lem most_directives in
-    let few_exceptions = leb s.exception_count_lem most_exceptions in
+    let ds = take s.directive_count s.directives in
+    let few = leb s.directive_count most_directives in
+    let few_exceptions = leb s.exception_count most_exceptions in
     let blocks = all_of (λ (d : Rule). block_in_form ns d.block) ds in
-    let rest = exceptions_in_form ns ds 0 (take s.exception_count_lem s.exceptions) in
+    let rest = exceptions_in_form ns ds 0 (take s.exception_count s.exceptions) in
     let each = all_of_iff (λ (d : Rule). block_in_form ns d.block) ds in (
       λ t.
           let front = left (few && few_exceptions && blocks) rest t in
@@ -119,12 +119,12 @@ module _ (es : List Exception) where
 
 pub directive_numbered : (s : PolicySet) (n : ℕ)
     → numbered (policy_of s).directives n
-    ≡ map (directive_of (take s.exception_count_lem s.exceptions) n) (numbered (take s.directive_count_lem s.directives) n)
+    ≡ map (directive_of (take s.exception_count s.exceptions) n) (numbered (take s.directive_count s.directives) n)
 unfolding policy_of numbered
 directive_numbered s zero = refl
 directive_numbered s (suc k) =
-    let es = take s.exception_count_lem s.exceptions in
-    let ds = take s.directive_count_lem s.directives in
+    let es = take s.exception_count s.exceptions in
+    let ds = take s.directive_count s.directives in
     let e : 1 + k ≡ suc k = omega arith in
     directive_placed es 1 ds k ∙ ap (λ (m : ℕ). map (directive_of es m) (get_elem? ds k)) e
 
@@ -172,8 +172,8 @@ module _ (ns : List ℕ) (ds : List Rule) (es : List Exception) (t : T (exceptio
 pub form_enclosing : (ns : List ℕ) (s : PolicySet) → T (policy_in_form ns s) → Every Enclosing (policy_of s).directives
 unfolding policy_of numbered
 form_enclosing ns s t =
-    let ds = take s.directive_count_lem s.directives in
-    let es = take s.exception_count_lem s.exceptions in
+    let ds = take s.directive_count s.directives in
+    let es = take s.exception_count s.exceptions in
     all_enclosing ns ds es ((policy_in_form_iff ns s).0 t).3 1 ds
     (λ k d e. let n : suc k ≡ 1 + k = omega arith in subst (λ (j : ℕ). numbered ds j ≡ some d) n e)
 
@@ -241,10 +241,10 @@ unfolding rules_in_form
 rules_past_count_unseen ns s t c e = λ i. leb (c i) most_rules && all_of (λ (r : Rule). block_in_form ns r.block) (e i)
 
 pub policy_past_count_unseen : (ns : List ℕ) (s t : PolicySet)
-    → s.directive_count_lem ≡ t.directive_count_lem
-    → s.exception_count_lem ≡ t.exception_count_lem
-    → take s.directive_count_lem s.directives ≡ take t.directive_count_lem t.directives
-    → take s.exception_count_lem s.exceptions ≡ take t.exception_count_lem t.exceptions
+    → s.directive_count ≡ t.directive_count
+    → s.exception_count ≡ t.exception_count
+    → take s.directive_count s.directives ≡ take t.directive_count t.directives
+    → take s.exception_count s.exceptions ≡ take t.exception_count t.exceptions
     → (policy_in_form ns s ≡ policy_in_form ns t) × (policy_of s ≡ policy_of t)
 unfolding policy_in_form policy_of
 policy_past_count_unseen ns s t c d e f = (

@@ -44,7 +44,7 @@ pub small_listing : FaultListing sizes table policy blocks
 unfolding listing_of runs_from last_from agree below same_label kind rule label judged asked asks excepted deciding first_from some_of holds within opposite same_action
 small_listing = listing_computed same_label same_label_iff good sizes (label table policy)
 
-pub small_verdict : VerdictOn sizes table policy (record { label = wrong 1; accept_directive_lem = 0; deny_directive_lem = 1; packet = 2 ∷ 1 ∷ [] })
+pub small_verdict : VerdictOn sizes table policy (record { label = wrong 1; accept_directive = 0; deny_directive = 1; packet = 2 ∷ 1 ∷ [] })
 unfolding verdict_of verdict_for best best_below better ahead rank_of kind rule label judged asked asks lowest_asking number_of excepted deciding first_from some_of holds within opposite same_action
 small_verdict = verdict_exists sizes table policy
 
@@ -66,9 +66,9 @@ many_rules n = record { count = n; records = replicate 65 (record { action = acc
 abbrev many_directives : ℕ → ℕ → PolicySet
 many_directives n m =
     record {
-      directive_count_lem = n;
+      directive_count = n;
       directives = replicate 33 (record { action = accept; block = widest sizes });
-      exception_count_lem = m;
+      exception_count = m;
       exceptions = replicate 65 (record { directive = 1; block = widest sizes });
     }
 

@@ -33,8 +33,8 @@ conforms_means ns f asking (case_conforms c r u) e = record { no_conflict = c; n
 pub conforms_all_zero : (ns : List ℕ)
     → (kind (conforms ns).label ≡ 0)
     × (rule (conforms ns).label ≡ 0)
-    × ((conforms ns).accept_directive_lem ≡ 0)
-    × ((conforms ns).deny_directive_lem ≡ 0)
+    × ((conforms ns).accept_directive ≡ 0)
+    × ((conforms ns).deny_directive ≡ 0)
     × Every (λ x. x ≡ 0) (conforms ns).packet
 unfolding kind rule
 conforms_all_zero ns = (refl, refl, refl, refl, zeros ns)

@@ -48,8 +48,8 @@ abbrev pub verdict_line : Verdict
 verdict_line =
     record {
       label = wrong 2;
-      accept_directive_lem = 0;
-      deny_directive_lem = 1;
+      accept_directive = 0;
+      deny_directive = 1;
       packet = quad 10 20 0 9 ∷ quad 10 30 0 6 ∷ 6 ∷ 8443 ∷ [];
     }
 

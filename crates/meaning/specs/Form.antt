@@ -47,9 +47,9 @@ pub record Exception : Type 0 where
 
 -- a policy as a caller makes it; a directive's record is an action and a block, as a rule's
 pub record PolicySet : Type 0 where
-  pub directive_count_lem : ℕ
+  pub directive_count : ℕ
   pub directives : List Rule
-  pub exception_count_lem : ℕ
+  pub exception_count : ℕ
   pub exceptions : List Exception
 
 -- the table that a rule set stands for
@@ -68,7 +68,7 @@ directives_from n (d ∷ ds) es = record { action = d.action; block = d.block; e
 
 -- the policy that a policy set stands for
 unfoldable pub policy_of : PolicySet → Policy
-policy_of s = record { directives = directives_from 1 (take s.directive_count_lem s.directives) (take s.exception_count_lem s.exceptions) }
+policy_of s = record { directives = directives_from 1 (take s.directive_count s.directives) (take s.exception_count s.exceptions) }
 
 -- not "a low above its high, a number past its field's largest"
 unfoldable pub block_in_form : List ℕ → Block → Bool
@@ -95,10 +95,10 @@ exceptions_in_form ns ds before (e ∷ es) =
 -- all of this for a policy
 unfoldable pub policy_in_form : List ℕ → PolicySet → Bool
 policy_in_form ns s =
-    leb s.directive_count_lem most_directives
-    && leb s.exception_count_lem most_exceptions
-    && all_of (λ (d : Rule). block_in_form ns d.block) (take s.directive_count_lem s.directives)
-    && exceptions_in_form ns (take s.directive_count_lem s.directives) 0 (take s.exception_count_lem s.exceptions)
+    leb s.directive_count most_directives
+    && leb s.exception_count most_exceptions
+    && all_of (λ (d : Rule). block_in_form ns d.block) (take s.directive_count s.directives)
+    && exceptions_in_form ns (take s.directive_count s.directives) 0 (take s.exception_count s.exceptions)
 
 -- "A packet to be labelled is out of form if a number is past its field's largest."
 unfoldable pub packet_in_form : List ℕ → Packet → Bool

@@ -8,8 +8,8 @@ use Rattle.meaning.specs.Rules.{Action, accept, deny, Table}
 -- "Beside it stand two directive numbers": the label (kind and rule), the two numbers, and the packet.
 pub record Verdict : Type 0 where
   pub label : Label
-  pub accept_directive_lem : ℕ
-  pub deny_directive_lem : ℕ
+  pub accept_directive : ℕ
+  pub deny_directive : ℕ
   pub packet : Packet
 
 -- p is the least packet of which P holds
@@ -24,7 +24,7 @@ None ns P = (q : Packet) → InRange ns q → ¬ P q
 
 -- "Conforms, all other numbers 0."
 abbrev pub conforms : List ℕ → Verdict
-conforms ns = record { label = good; accept_directive_lem = 0; deny_directive_lem = 0; packet = lowest ns }
+conforms ns = record { label = good; accept_directive = 0; deny_directive = 0; packet = lowest ns }
 
 -- By the labels f: q is of kind 2 or 3, and its rule is n.
 abbrev pub Blames : (Packet → Label) → ℕ → Packet → Type 0
@@ -36,7 +36,7 @@ Unmet f q = OfKind f 4 q ⊎ OfKind f 5 q
 
 -- the answer at p: its label, and the lowest directives asking there
 abbrev pub verdict_at : (Packet → Label) → (Action → Packet → ℕ) → Packet → Verdict
-verdict_at f asking p = record { label = f p; accept_directive_lem = asking accept p; deny_directive_lem = asking deny p; packet = p }
+verdict_at f asking p = record { label = f p; accept_directive = asking accept p; deny_directive = asking deny p; packet = p }
 
 -- The verdict by the labels f, where `asking a q` is the lowest directive asking a at q.
 pub data IsVerdict (ns : List ℕ) (f : Packet → Label) (asking : Action → Packet → ℕ) : Verdict → Type 0 where

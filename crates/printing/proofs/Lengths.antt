@@ -132,8 +132,8 @@ pub verdict_line_few : (v : Verdict) → length (verdict_line v) ≤ most_verdic
 unfolding verdict_line
 verdict_line_few v =
     let r = decimal (rule v.label) in
-    let a = decimal v.accept_directive_lem in
-    let d = decimal v.deny_directive_lem in
+    let a = decimal v.accept_directive in
+    let d = decimal v.deny_directive in
     let p = numbers_of spellings v.packet in
     elim (ℕ_discrete (kind v.label) 0) [
       | yes e ↦ simp (eq-eqb _ 0 e) (omega arith)
@@ -148,8 +148,8 @@ verdict_line_few v =
             field_length d p,
             word_few v.label,
             decimal_few (rule v.label),
-            decimal_few v.accept_directive_lem,
-            decimal_few v.deny_directive_lem,
+            decimal_few v.accept_directive,
+            decimal_few v.deny_directive,
             numbers_fit spellings_fit v.packet,
           ))
     ]

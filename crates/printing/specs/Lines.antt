@@ -46,7 +46,7 @@ word unmet_deny = bytes "unmet-deny"
 -- "Verdict fields: word, rule, accept directive, deny directive, packet."
 abbrev pub verdict_fields : Verdict → List (List ℕ)
 verdict_fields v =
-    word v.label ∷ decimal (rule v.label) ∷ decimal v.accept_directive_lem ∷ decimal v.deny_directive_lem ∷ numbers_of spellings v.packet
+    word v.label ∷ decimal (rule v.label) ∷ decimal v.accept_directive ∷ decimal v.deny_directive ∷ numbers_of spellings v.packet
 
 -- "A conforming pair prints `verdict conforms`."
 unfoldable pub verdict_line : Verdict → List ℕ

@@ -24,7 +24,7 @@ pub fn put_verdict(
     deny_directive: u32,
     packet: Packet,
 ) -> usize
-    ensures { Put output.old start (verdict_line (record { label = label_of label; accept_directive_lem = accept_directive; deny_directive_lem = deny_directive; packet = packet_of packet })) output.new result }
+    ensures { Put output.old start (verdict_line (record { label = label_of label; accept_directive = accept_directive; deny_directive = deny_directive; packet = packet_of packet })) output.new result }
 {
     if label.kind() == 0 {
         return putting::put_bytes(output, start, b"verdict conforms\n");

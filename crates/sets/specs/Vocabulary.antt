@@ -35,9 +35,9 @@ exception_of e = record { directive = e.directive; block = block_of e.block }
 abbrev pub policy_set_of : Policy → form.PolicySet
 policy_set_of s =
     record {
-      directive_count_lem = s.directive_count;
+      directive_count = s.directive_count;
       directives = map directive_of s.directives;
-      exception_count_lem = s.exception_count;
+      exception_count = s.exception_count;
       exceptions = map exception_of s.exceptions;
     }
 

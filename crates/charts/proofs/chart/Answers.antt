@@ -13,13 +13,13 @@ returns c =
     let front-put = c.put_front in
     let fields-put = c.chart_fields in
     record {
-      counted = blocks-put.ensures.0;
+      counted = blocks-put.ensures.blocks_counted;
       numbers = _;
-      numbered = blocks-put.ensures.1;
-      front = take front_words front-put.new.1.1.0;
-      front_long = length-take-le front_words front-put.new.1.1.0 (omega (arith, c.requires.words_len.0, c.words-1.given));
-      masks = fields-put.new.1.1.1.1.0;
-      words_are = all_behind front-put.new.1.1.0 fields-put.new.1.1.1.1.0 front_words;
-      front_words_lem = front-put.ensures;
+      numbered = blocks-put.ensures.in_front;
+      front = take front_words front-put.new.words;
+      front_long = length-take-le front_words front-put.new.words (omega (arith, c.requires.words_len.0, c.words-1.given));
+      masks = fields-put.new.masks;
+      words_are = all_behind front-put.new.words fields-put.new.masks front_words;
+      words_of_front = front-put.ensures;
       each_field = fields-put.ensures;
     }

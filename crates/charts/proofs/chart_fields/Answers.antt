@@ -12,7 +12,7 @@ loop-field-preserved c =
     let w = c.loop-field.invariant in
     let masks-back = c.masks-1.given in
     let places-back = c.places-1.given in
-    fields_more _ _ _ _ _ _ _ _ _ _ _ below c.type_size.ensures c.chart_field.ensures (masks-back.0 ∙ masks_part _ _ _ _ _ below w)
+    fields_more _ _ _ _ _ _ _ _ _ _ _ below c.size_of-size.ensures c.chart_field.ensures (masks-back.0 ∙ masks_part _ _ _ _ _ below w)
     (places-back.0 ∙ places_part _ _ _ _ _ below w) masks-back.1 places-back.1 w
 
 pub returns : goal.returns

@@ -19,8 +19,8 @@ returns c =
       answer = λ i.
           record {
             label = c.before.before.label_of.ensures i;
-            accept_directive_lem = c.before.lowest-asking.ensures i;
-            deny_directive_lem = c.lowest-asking2.ensures i;
+            accept_directive = c.before.lowest-asking.ensures i;
+            deny_directive = c.lowest-asking2.ensures i;
             packet = packet_of c.before.before.before.args.packet;
           };
     }

@@ -33,6 +33,6 @@ returns c =
     let counted = directives_counted c.requires.limited full in
     let turned = c.put_turning.ensures in
     let owners-put = c.put_owners.ensures in
-    let words_are = turned.put ∙ ap (λ (x : List ℕ). set (set x of_accepting turned.of_accepting_lem) of_denying turned.of_denying_lem) owners-put in
+    let words_are = turned.put ∙ ap (λ (x : List ℕ). set (set x of_accepting turned.of_accepting_word) of_denying turned.of_denying_word) owners-put in
     front_is c.args.words.now _ _ _ _ _ _ _ _ _ counted c.requires.limited.few_directives (omega (arith, c.requires.words_len)) words_are
     c.accepting_rules.ensures c.accepting_directives.ensures turned.are_accepting turned.are_denying
