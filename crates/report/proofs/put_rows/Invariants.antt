@@ -1,0 +1,17 @@
+-- Row by row.
+use mathlib.Core.Path.{◌∙◌, ◌≡◌, ap, refl, sym}
+use Prim.Native.Nat.{◌-◌, ◌≤◌}
+use native.Mathlib.Omega.{arith}
+use borrow.Author.Rules.{rules}
+use lib.ListN.{length}
+use Rattle.putting.proofs.Putting.{put_length, put_nothing, put_same, put_then}
+use Rattle.putting.specs.Putting.{Put}
+use Rattle.report.proofs.RowLines.{lines_more}
+use Rattle.report.specs.Inner.{row_lines}
+use Rattle.report.proofs.put_rows.Given as goal
+
+abbrev pub invariant-loop-i : goal.invariant-loop-i
+invariant-loop-i l = (l.i ≤ l.count) × (length l.output ≡ length l.initial.output) × Put l.initial.output l.start (row_lines l.rows l.i) l.output l.at
+
+abbrev pub decreases-loop-i : goal.decreases-loop-i
+decreases-loop-i l = l.count - l.i
