@@ -7,7 +7,6 @@ use native.Mathlib.Omega.{arith}
 use native.Mathlib.Numerals.{add-one}
 use borrow.Author.Tests.{le-ltb}
 use lib.Bits.{bit_and, bit_xor, and_zero_l}
-use lib.Dec.{ltb}
 use lib.ListN.{length, get_or, drop_of_length-le}
 use lib.Seq.{drop-cons}
 use Rattle.meaning.specs.Fields.{range_none, range_more}

@@ -1,8 +1,8 @@
 -- The rank of a label by its number. Assumes nothing.
 use mathlib.Core.Path.{◌≡◌, refl, sym, ap, ◌∙◌}
-use Prim.Native.Nat.{ℕ, zero, suc, ◌+◌, ◌*◌, ◌/◌, ◌%◌, ◌≤◌, ◌<◌}
+use Prim.Native.Nat.{ℕ, zero, suc, ◌/◌, ◌%◌, ◌≤◌, ◌<◌}
 use native.Mathlib.Omega.{arith}
-use Rattle.meaning.specs.Labels.{Label, kind, rule}
+use Rattle.meaning.specs.Labels.{Label}
 use Rattle.meaning.specs.Sizes.{unmet_rank}
 use Rattle.meaning.specs.Form.{most_rules}
 use Rattle.meaning.proofs.VerdictRanks.{rank_of, rank}

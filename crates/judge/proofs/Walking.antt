@@ -14,7 +14,7 @@ use Rattle.cells.specs.Cells.{Chart, Formed, left_label, step, below, Nothing}
 use Rattle.cells.proofs.Below.{nothing_below, below_none, below_more}
 use Rattle.judge.specs.declared.Best.{Best}
 use Rattle.judge.specs.Ranks.{cell_rank, BetterThan, no_better}
-use Rattle.judge.proofs.Better.{NoneBetter, better_is_lower, none_is_better, better_start, better_stays, better_more, better_last, better_kept}
+use Rattle.judge.proofs.Better.{NoneBetter, none_is_better, better_start, better_stays, better_more, better_last, better_kept}
 
 -- b is the best of the cells below a field, if it is better than the limit
 abbrev pub BetterBelow : Chart → ℕ → Left → ℕ → Best → Type 0

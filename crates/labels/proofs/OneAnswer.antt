@@ -12,7 +12,6 @@ use Rattle.sets.specs.declared.Action.{Action}
 use Rattle.sets.specs.declared.Label.TheVariants.{Good, Conflict, Wrong, Unasked, UnmetAccept, UnmetDeny}
 use Rattle.sets.specs.declared.Label.{Label}
 use Rattle.sets.specs.declared.Policy.{Policy}
-use Rattle.sets.specs.declared.Rule.{Rule}
 use Rattle.sets.specs.declared.Rules.{Rules}
 use Rattle.sets.specs.Vocabulary.{action_of, label_of}
 use Rattle.sets.proofs.OneAnswer.{one_refusal}

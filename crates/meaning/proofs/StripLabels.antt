@@ -10,7 +10,7 @@ use Rattle.meaning.specs.Blocks.{Span, Block, within, holds}
 use Rattle.meaning.specs.Fields.{Packet}
 use Rattle.meaning.specs.Labels.{label}
 use Rattle.meaning.specs.Policies.{Directive, Policy, excepted, asks, asked, lowest_asking}
-use Rattle.meaning.specs.Records.{some_of, all_of, first, number_of}
+use Rattle.meaning.specs.Records.{some_of, all_of, number_of}
 use Rattle.meaning.specs.Rules.{Action, accept, deny, Rule, deciding, Table}
 use Rattle.meaning.specs.Strips.{Cut, strips, place, InCell, cell_none, cell_more, corner, ByCells, is_place, cut_at, cut_for_directive, cut_for}
 use Rattle.meaning.proofs.StripCells.{place_past, place_mono, cell_in_range, corner_in_cell}

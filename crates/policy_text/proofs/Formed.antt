@@ -1,11 +1,11 @@
 -- What a policy text is read as is in form and zero past its counts; a refused one is read as the empty set. Assumes nothing.
-use mathlib.Core.Bool.{Bool, true, false, cond, not}
-use mathlib.Core.List.{List, [], ◌∷◌, ◌++◌, map, map-append}
+use mathlib.Core.Bool.{true}
+use mathlib.Core.List.{List, [], ◌∷◌, map, map-append}
 use mathlib.Core.Option.{some}
 use mathlib.Core.Path.{◌≡◌, refl, ap, sym, subst, ◌∙◌}
 use native.Mathlib.Omega.{arith}
 use Prim.Native.Nat.{ℕ, ◌≤◌, ◌<◌}
-use lib.Dec.{T, eqb, leb}
+use lib.Dec.{T}
 use lib.ListN.{length, length-append}
 use Rattle.meaning.specs.Blocks.{inside}
 use Rattle.meaning.specs.Fields.{fields}

@@ -1,5 +1,5 @@
 -- For the public call: its contract leaves one output, and of the lent buffer one content. Assumes nothing.
-use mathlib.Core.Path.{◌≡◌, refl, sym, ap, ◌∙◌}
+use mathlib.Core.Path.{◌≡◌, sym, ap, ◌∙◌}
 use mathlib.Core.List.{List, ◌++◌}
 use Prim.Native.Nat.{ℕ, ◌+◌, min, max}
 use native.Mathlib.Decide.{ℕ_discrete}
@@ -7,10 +7,7 @@ use lib.ListN.{length, take}
 use lib.Seq.{sets}
 use Rattle.meaning.specs.Fields.{fields}
 use Rattle.meaning.specs.Form.{table_of, policy_of}
-use Rattle.meaning.specs.Labels.{Label}
-use Rattle.meaning.specs.Listings.{Listed}
 use Rattle.meaning.specs.Policies.{lowest_asking}
-use Rattle.meaning.specs.Verdicts.{Verdict}
 use Rattle.meaning.proofs.Demands.{fault_listing_is_unique}
 use Rattle.meaning.proofs.VerdictUnique.{verdict_is_unique}
 use Rattle.contracts.specs.Answers.{OneOutcome}

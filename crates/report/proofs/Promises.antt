@@ -1,6 +1,5 @@
 -- No output is cut off, and document 01's run is printed as the paper has it. Assumes nothing.
 use mathlib.Core.Path.{◌≡◌, refl, sym, ap, ◌∙◌, subst}
-use mathlib.Core.Bool.{cond}
 use mathlib.Core.List.{List, [], ◌∷◌, ◌++◌}
 use Prim.Native.Nat.{ℕ, ◌+◌, ◌*◌, ◌≤◌}
 use Prim.Native.String.{String}
@@ -8,11 +7,11 @@ use native.Mathlib.Decide.{ℕ_discrete}
 use native.Mathlib.Omega.{arith}
 use lib.Count.{ones_in}
 use lib.ListN.{length, take, drop, length-append, length-take}
-use lib.Seq.{sets, sets-eq, take_at}
+use lib.Seq.{sets-eq, take_at}
 use Rattle.meaning.specs.Blocks.{inside}
 use Rattle.meaning.specs.Document as document
 use Rattle.meaning.specs.Fields.{fields}
-use Rattle.meaning.specs.Form.{table_of, policy_of}
+use Rattle.meaning.specs.Form.{policy_of}
 use Rattle.meaning.specs.Labels.{Label, kind, rule}
 use Rattle.meaning.specs.Listings.{Listed, FaultListing}
 use Rattle.meaning.specs.Policies as policies

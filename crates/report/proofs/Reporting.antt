@@ -4,8 +4,6 @@ use mathlib.Core.Bool.{Bool, true, false}
 use mathlib.Core.List.{List}
 use Prim.Native.Nat.{ℕ}
 use Rattle.meaning.specs.Form.{refuse_sets, or_else}
-use Rattle.sets.specs.declared.Policy.{Policy}
-use Rattle.sets.specs.declared.Rules.{Rules}
 use Rattle.sets.specs.Vocabulary.{refusal_of}
 use Rattle.rule_text.specs.declared.RulesRead.{RulesRead}
 use Rattle.rule_text.specs.RuleTexts.{read_rules}

@@ -1,5 +1,5 @@
 -- Words of private contracts; no public contract uses them.
-use Rattle.std.specs.Prelude.{List, [], ◌++◌, ◌≡◌, ℕ, zero, suc, ◌+◌, ◌*◌, length, take, drop, get_or}
+use Rattle.std.specs.Prelude.{List, [], ◌++◌, ℕ, zero, suc, ◌+◌, ◌*◌, length, take, drop, get_or}
 use Rattle.meaning.specs.Buffers.{spans_of}
 use Rattle.meaning.specs.Labels.{Label}
 use Rattle.meaning.specs.Listings.{Listed}

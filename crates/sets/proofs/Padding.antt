@@ -5,7 +5,7 @@ use mathlib.Core.Path.{◌≡◌, refl, ap, sym, ◌∙◌}
 use native.Mathlib.Omega.{arith}
 use Prim.Native.Nat.{ℕ, suc, ◌+◌, ◌-◌, ◌≤◌, ◌<◌}
 use borrow.Author.Tests.{le-leb}
-use lib.ListN.{length, take, drop, set, replicate, length-append, length-map, length-replicate}
+use lib.ListN.{length, take, set, replicate, length-append, length-map, length-replicate}
 use lib.Seq.{set-append_seam, append_snoc, take-append_seam, drop-append_seam}
 use Rattle.meaning.specs.Fields.{fields}
 use Rattle.meaning.specs.Form.{most_rules, most_directives, most_exceptions, unrefused, rules_in_form, policy_in_form, exceptions_in_form, refuse_rules, refuse_policy}

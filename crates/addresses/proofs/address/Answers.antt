@@ -1,6 +1,5 @@
 -- The five forms in their order. Assumes nothing.
 use mathlib.Core.Path.{sym, ap, ap₂, ◌∙◌}
-use borrow.Author.Rules.{rules}
 use borrow.Author.Tests.{eq-eqb, ne_eqb}
 use Rattle.numbers.specs.Intervals.{single, range}
 use Rattle.addresses.specs.Addresses.{address_of}

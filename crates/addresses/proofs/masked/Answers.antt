@@ -1,9 +1,7 @@
 -- Ones and trailing zeros make up 32 digits exactly if the mask is ones and then zeros. Assumes nothing.
 use mathlib.Core.Path.{sym, ap, ◌∙◌}
-use native.Mathlib.Omega.{arith}
-use borrow.Author.Rules.{rules}
 use borrow.Author.Tests.{eq-eqb, ne_eqb}
-use lib.Count.{ones_in, ones-le, trailing_le}
+use lib.Count.{ones_in}
 use Rattle.addresses.specs.Addresses.{prefix_of, mask_of, masked_by}
 use Rattle.addresses.proofs.Masks.{ones_in_lem, mask_yes, mask_no}
 use Rattle.addresses.proofs.masked.Goals as goal

@@ -1,6 +1,5 @@
 -- The four numbers in their order; each that reads is at most 255. Assumes nothing.
 use mathlib.Core.Path.{sym, ap, ◌∙◌}
-use borrow.Author.Rules.{rules}
 use borrow.Author.Tests.{eq-eqb, ne_eqb}
 use Rattle.parts.specs.Parts.{part}
 use Rattle.parts.specs.Words.{dot}

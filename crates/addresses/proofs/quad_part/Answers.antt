@@ -1,6 +1,5 @@
 -- The part's bytes are what `quad` reads. Assumes nothing.
 use mathlib.Core.Path.{ap, ◌∙◌}
-use borrow.Author.Rules.{rules}
 use Rattle.parts.proofs.Parting.{part_bytes}
 use Rattle.addresses.specs.Addresses.{quad_of}
 use Rattle.addresses.proofs.quad_part.Goals as goal

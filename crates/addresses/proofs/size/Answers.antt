@@ -1,7 +1,6 @@
 -- The table is the powers of two, and its rule is known for every entry. Assumes nothing.
 use mathlib.Core.Path.{ap, ◌∙◌}
 use native.Mathlib.Omega.{arith}
-use borrow.Author.Rules.{rules}
 use Rattle.addresses.specs.Addresses.{size_of}
 use Rattle.addresses.proofs.Tables.{entry}
 use Rattle.addresses.proofs.size.Goals as goal

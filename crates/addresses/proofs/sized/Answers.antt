@@ -1,6 +1,5 @@
 -- A length that reads is tried before a mask. Assumes nothing.
 use mathlib.Core.Path.{sym, ◌∙◌}
-use borrow.Author.Rules.{rules}
 use Rattle.numbers.proofs.Reckoning.{decimal_le}
 use Rattle.addresses.specs.Addresses.{sized_by}
 use Rattle.addresses.proofs.sized.Goals as goal

@@ -1,6 +1,5 @@
 -- The part's bytes are what `sized` reads. Assumes nothing.
 use mathlib.Core.Path.{ap, ◌∙◌}
-use borrow.Author.Rules.{rules}
 use Rattle.parts.proofs.Parting.{part_bytes}
 use Rattle.addresses.specs.Addresses.{sized_by}
 use Rattle.addresses.proofs.sized_part.Goals as goal

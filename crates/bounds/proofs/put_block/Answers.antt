@@ -1,7 +1,6 @@
 -- The bounds of the block, copied. Assumes nothing.
 use mathlib.Core.Path.{◌∙◌, ap}
 use Prim.Native.Nat.{◌*◌}
-use borrow.Author.Rules.{rules}
 use lib.Seq.{sets}
 use Rattle.meaning.specs.Sizes.{block_bounds}
 use Rattle.bounds.proofs.put_block.Goals as goal

@@ -11,11 +11,11 @@ returns c =
     let full : Full args.rules args.policy = search (rules, length_of_map) in
     record {
       blocks_counted =
-        record {
-          rules = rule_blocks_counted limited full;
-          directives = directive_blocks_counted limited full;
-          exceptions = exception_blocks_counted limited full
-        };
+          record {
+            rules = rule_blocks_counted limited full;
+            directives = directive_blocks_counted limited full;
+            exceptions = exception_blocks_counted limited full;
+          };
       in_front =
-        all_in_front limited full _ _ _ _ c.requires.numbers_len c.put_rules.ensures c.put_directives.ensures c.put_exceptions.ensures
+          all_in_front limited full _ _ _ _ c.requires.numbers_len c.put_rules.ensures c.put_directives.ensures c.put_exceptions.ensures;
     }

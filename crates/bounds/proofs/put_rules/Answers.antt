@@ -1,13 +1,10 @@
 use mathlib.Core.Path.{◌≡◌, refl}
-use Prim.Native.Nat.{◌-◌}
 use native.Mathlib.Omega.{arith}
 use borrow.Author.Rules.{rules}
 use lib.ListN.{length}
-use Rattle.meaning.specs.Rules.{Rule}
 use Rattle.meaning.specs.Form.{most_rules}
 use Rattle.sets.proofs.Walks.{length_of_map}
-use Rattle.sets.specs.Vocabulary.{rule_of}
-use Rattle.bounds.proofs.BlockWalk.{StoredUpTo, blocks_end, blocks_more, blocks_start}
+use Rattle.bounds.proofs.BlockWalk.{blocks_end, blocks_more, blocks_start}
 use Rattle.bounds.proofs.put_rules.Goals as goal
 
 pub loop-i-init : goal.loop-i-init

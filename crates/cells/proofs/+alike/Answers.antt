@@ -1,12 +1,7 @@
 use mathlib.Core.Path.{refl}
-use Prim.Native.Nat.{◌+◌, ◌-◌, ◌<◌, ℕ}
 use native.Mathlib.Omega.{arith}
-use borrow.Author.Rules.{rules}
-use borrow.Author.Tests.{not-false, not-true}
-use lib.ListN.{length}
-use Rattle.cells.specs.Cells.{chart}
 use Rattle.cells.proofs.Below.{same_if_equal, same_if_nothing}
-use Rattle.cells.proofs.Comparing.{Compared, compared_end, compared_more, compared_skip, compared_start, compared_stop, told_last}
+use Rattle.cells.proofs.Comparing.{compared_end, compared_more, compared_skip, compared_start, compared_stop, told_last}
 use Rattle.cells.proofs.Telling.{told_false, told_true}
 use Rattle.cells.proofs.+alike.Goals as goal
 

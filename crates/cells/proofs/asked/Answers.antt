@@ -1,6 +1,5 @@
 use native.Mathlib.Omega.{arith}
-use borrow.Author.Rules.{rules}
-use Rattle.cells.proofs.Freeing.{Freeing, asked_by_exception, freeing_end, freeing_found, freeing_less, freeing_more, freeing_start, freeing_within}
+use Rattle.cells.proofs.Freeing.{asked_by_exception, freeing_end, freeing_found, freeing_less, freeing_more, freeing_start, freeing_within}
 use Rattle.cells.proofs.asked.Goals as goal
 
 pub returns-then-exceptions-turning-ne0 : goal.returns-then-exceptions-turning-ne0

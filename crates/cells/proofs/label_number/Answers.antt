@@ -1,7 +1,6 @@
 -- The rows of the table of kinds, as numbers. Assumes nothing.
 use mathlib.Core.Path.{◌∙◌, ap, sym}
 use native.Mathlib.Omega.{arith}
-use borrow.Author.Rules.{rules}
 use lib.Count.{trailing_le}
 use Rattle.meaning.specs.Labels.{kind, rule}
 use Rattle.meaning.specs.Sizes.{mask_digits}

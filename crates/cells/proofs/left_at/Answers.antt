@@ -1,6 +1,5 @@
 -- The digits that both have.
 use mathlib.Core.Path.{refl}
-use borrow.Author.Rules.{rules}
 use Rattle.cells.specs.Cells.{left_at}
 use Rattle.cells.proofs.left_at.Goals as goal
 

@@ -1,5 +1,4 @@
 -- Nothing is left of both.
-use borrow.Author.Rules.{rules}
 use Rattle.cells.proofs.Telling.{told_false, told_true}
 use Rattle.cells.proofs.nothing_of.Goals as goal
 

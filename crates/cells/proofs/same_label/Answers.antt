@@ -1,6 +1,5 @@
 -- Labels with the same number are the same. Assumes nothing.
 use mathlib.Core.Path.{◌∙◌, ap, sym}
-use borrow.Author.Rules.{rules}
 use Rattle.cells.proofs.LabelNumbers.{same_number}
 use Rattle.cells.specs.Cells.{label_number}
 use Rattle.cells.proofs.same_label.Goals as goal

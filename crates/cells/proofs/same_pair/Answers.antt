@@ -1,5 +1,4 @@
 -- Both are the same.
-use borrow.Author.Rules.{rules}
 use Rattle.cells.proofs.Telling.{told_false, told_true}
 use Rattle.cells.proofs.same_pair.Goals as goal
 

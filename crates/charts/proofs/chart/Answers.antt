@@ -1,6 +1,5 @@
 -- The numbers of the blocks, the front of the words, and behind it the charts of the fields. Assumes nothing.
 use native.Mathlib.Omega.{arith}
-use borrow.Author.Rules.{rules}
 use lib.ListN.{take}
 use lib.Seq.{length-take-le}
 use Rattle.meaning.specs.Sizes.{front_words}

@@ -1,9 +1,5 @@
 use mathlib.Core.Path.{◌∙◌}
-use Prim.Native.Nat.{◌-◌}
-use borrow.Author.Rules.{rules}
-use Rattle.meaning.specs.Fields.{fields}
-use Rattle.meaning.specs.Sizes.{field_count}
-use Rattle.charts.proofs.FieldWalk.{ChartedUpTo, fields_end, fields_more, fields_start, masks_part, places_part}
+use Rattle.charts.proofs.FieldWalk.{fields_end, fields_more, masks_part, places_part}
 use Rattle.charts.proofs.chart_fields.Goals as goal
 
 pub loop-field-preserved : goal.loop-field-preserved

@@ -1,10 +1,8 @@
 -- The invariant: the fields below `field` are charted. Assumes nothing.
-use mathlib.Core.Path.{◌∙◌}
 use Prim.Native.Nat.{◌-◌}
-use borrow.Author.Rules.{rules}
 use Rattle.meaning.specs.Fields.{fields}
 use Rattle.meaning.specs.Sizes.{field_count}
-use Rattle.charts.proofs.FieldWalk.{ChartedUpTo, fields_end, fields_more, fields_start, masks_part, places_part}
+use Rattle.charts.proofs.FieldWalk.{ChartedUpTo}
 use Rattle.charts.proofs.chart_fields.Given as goal
 
 abbrev pub invariant-loop-field : goal.invariant-loop-field

@@ -1,6 +1,5 @@
 -- By the widest block. Assumes nothing.
 use mathlib.Core.Path.{◌∙◌, ap}
-use borrow.Author.Rules.{rules}
 use Rattle.meaning.specs.Buffers.{bounds}
 use Rattle.charts.proofs.FieldSizes.{size_is}
 use Rattle.charts.proofs.size_of.Goals as goal

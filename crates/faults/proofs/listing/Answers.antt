@@ -1,6 +1,5 @@
 -- Refused or told.
 use mathlib.Core.Path.{◌∙◌, ap, refl, sym}
-use borrow.Author.Rules.{rules}
 use Rattle.meaning.specs.Form.{Refusal}
 use Rattle.faults.proofs.listing.Goals as goal
 

@@ -1,10 +1,9 @@
 use mathlib.Core.Path.{◌∙◌, ◌≡◌, refl}
-use Prim.Native.Nat.{◌-◌}
 use native.Mathlib.Omega.{arith}
 use borrow.Author.Rules.{rules}
 use lib.ListN.{length}
 use Rattle.meaning.specs.Sizes.{field_count}
-use Rattle.findings.proofs.CornerWalk.{CornerUpTo, corner_start, corner_more, corner_end}
+use Rattle.findings.proofs.CornerWalk.{corner_start, corner_more, corner_end}
 use Rattle.findings.proofs.corner.Goals as goal
 
 pub loop-field-init : goal.loop-field-init

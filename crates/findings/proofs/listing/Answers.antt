@@ -1,5 +1,4 @@
 -- The listing over the cells of the chart. Assumes nothing.
-use borrow.Author.Rules.{rules}
 use Rattle.findings.proofs.Answering.{all_counts, chart_formed, listing_told, places_placed}
 use Rattle.findings.proofs.listing.Goals as goal
 
@@ -9,7 +8,7 @@ list_cells-requires c =
     record {
       counts_len = all_counts pre.limited pre.charted;
       formed = chart_formed pre.limited pre.charted;
-      placed = places_placed pre.limited pre.charted
+      placed = places_placed pre.limited pre.charted;
     }
 
 pub returns : goal.returns

@@ -1,5 +1,4 @@
 -- By the best of the cells of the chart. Assumes nothing.
-use borrow.Author.Rules.{rules}
 use Rattle.findings.proofs.Answering.{all_counts, chart_formed, conforms_right, found_right, placed_right, places_placed}
 use Rattle.findings.proofs.verdict.Goals as goal
 
@@ -18,7 +17,7 @@ corner-requires c =
     let pre = c.requires in
     record {
       places_len = (places_placed pre.limited pre.charted).long;
-      corner_placed = placed_right pre.limited pre.charted _ c.best_cell-best.ensures c.if-best-eq-GOOD.false
+      corner_placed = placed_right pre.limited pre.charted _ c.best_cell-best.ensures c.if-best-eq-GOOD.false;
     }
 
 pub returns : goal.returns

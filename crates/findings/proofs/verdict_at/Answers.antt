@@ -1,5 +1,4 @@
 -- The label, and the lowest directives asking. Assumes nothing.
-use borrow.Author.Rules.{rules}
 use Rattle.blocks.specs.Vocabulary.{packet_of}
 use Rattle.findings.proofs.verdict_at.Goals as goal
 

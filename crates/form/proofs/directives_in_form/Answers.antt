@@ -1,12 +1,10 @@
 use mathlib.Core.Path.{◌≡◌, refl, sym, ◌∙◌}
 use native.Mathlib.Omega.{arith}
-use Prim.Native.Nat.{◌-◌}
 use borrow.Author.Rules.{rules}
-use lib.ListN.{length, drop}
-use Rattle.meaning.specs.Records.{all_of}
+use lib.ListN.{length}
 use Rattle.meaning.specs.Form.{most_directives}
 use Rattle.sets.specs.Empty.{zero_directive}
-use Rattle.sets.specs.Inner.{directives_of, in_form}
+use Rattle.sets.specs.Inner.{in_form}
 use Rattle.sets.specs.Vocabulary.{directive_of}
 use Rattle.sets.proofs.Walks.{all_next, all_stop, all_over, length_of_map}
 use Rattle.form.proofs.directives_in_form.Goals as goal

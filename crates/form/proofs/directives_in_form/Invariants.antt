@@ -1,15 +1,10 @@
 -- The invariant: all directives are in form just if those from i on are. Assumes nothing.
-use mathlib.Core.Path.{◌≡◌, refl, sym, ◌∙◌}
-use native.Mathlib.Omega.{arith}
+use mathlib.Core.Path.{◌≡◌}
 use Prim.Native.Nat.{◌-◌}
-use borrow.Author.Rules.{rules}
-use lib.ListN.{length, drop}
+use lib.ListN.{drop}
 use Rattle.meaning.specs.Records.{all_of}
 use Rattle.meaning.specs.Form.{most_directives}
-use Rattle.sets.specs.Empty.{zero_directive}
 use Rattle.sets.specs.Inner.{directives_of, in_form}
-use Rattle.sets.specs.Vocabulary.{directive_of}
-use Rattle.sets.proofs.Walks.{all_next, all_stop, all_over, length_of_map}
 use Rattle.form.proofs.directives_in_form.Given as goal
 
 abbrev pub invariant-loop-i : goal.invariant-loop-i

@@ -1,13 +1,12 @@
 use mathlib.Core.Path.{◌≡◌, refl, sym, ap, ◌∙◌}
 use native.Mathlib.Omega.{arith}
-use Prim.Native.Nat.{◌-◌}
 use borrow.Author.Rules.{rules}
-use lib.ListN.{length, drop, get_or}
+use lib.ListN.{length, get_or}
 use Rattle.meaning.specs.Fields.{fields}
 use Rattle.meaning.specs.Form.{exceptions_in_form, most_directives, most_exceptions}
 use Rattle.meaning.specs.Records.{numbered}
 use Rattle.sets.specs.Empty.{zero_exception}
-use Rattle.sets.specs.Inner.{directives_of, exceptions_of}
+use Rattle.sets.specs.Inner.{directives_of}
 use Rattle.sets.specs.Vocabulary.{directive_of, exception_of}
 use Rattle.form.proofs.Exceptions.{naming_none, in_form_beside, out_of_form_beside}
 use Rattle.sets.proofs.Walks.{over, past_number, length_of_map}

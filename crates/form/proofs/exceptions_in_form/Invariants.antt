@@ -1,17 +1,10 @@
 -- The invariant: all exceptions are in form just if those from i on are, after one that named `before`. Assumes nothing.
-use mathlib.Core.Path.{◌≡◌, refl, sym, ap, ◌∙◌}
-use native.Mathlib.Omega.{arith}
+use mathlib.Core.Path.{◌≡◌}
 use Prim.Native.Nat.{◌-◌}
-use borrow.Author.Rules.{rules}
-use lib.ListN.{length, drop, get_or}
+use lib.ListN.{drop}
 use Rattle.meaning.specs.Fields.{fields}
-use Rattle.meaning.specs.Form.{exceptions_in_form, most_directives, most_exceptions}
-use Rattle.meaning.specs.Records.{numbered}
-use Rattle.sets.specs.Empty.{zero_exception}
+use Rattle.meaning.specs.Form.{exceptions_in_form, most_exceptions}
 use Rattle.sets.specs.Inner.{directives_of, exceptions_of}
-use Rattle.sets.specs.Vocabulary.{directive_of, exception_of}
-use Rattle.form.proofs.Exceptions.{naming_none, in_form_beside, out_of_form_beside}
-use Rattle.sets.proofs.Walks.{over, past_number, length_of_map}
 use Rattle.form.proofs.exceptions_in_form.Given as goal
 
 abbrev pub invariant-loop-i : goal.invariant-loop-i

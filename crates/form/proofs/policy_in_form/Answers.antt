@@ -1,7 +1,6 @@
 -- Each test is made in turn, and the first that fails settles it. Assumes nothing.
 use mathlib.Core.Path.{◌∙◌}
 use native.Mathlib.Omega.{arith}
-use borrow.Author.Rules.{rules}
 use borrow.Author.Tests.{le-leb, lt-leb}
 use Rattle.meaning.specs.Form.{policy_in_form, most_directives, most_exceptions}
 use Rattle.form.proofs.policy_in_form.Goals as goal

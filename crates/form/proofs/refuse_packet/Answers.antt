@@ -1,6 +1,5 @@
 -- What is not in form is refused. Assumes nothing.
 use mathlib.Core.Path.{◌∙◌}
-use borrow.Author.Rules.{rules}
 use Rattle.meaning.specs.Form.{refuse_packet}
 use Rattle.form.proofs.refuse_packet.Goals as goal
 

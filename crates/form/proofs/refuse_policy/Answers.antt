@@ -1,6 +1,5 @@
 -- What is not in form is refused. Assumes nothing.
 use mathlib.Core.Path.{◌∙◌}
-use borrow.Author.Rules.{rules}
 use Rattle.meaning.specs.Form.{refuse_policy}
 use Rattle.form.proofs.refuse_policy.Goals as goal
 

@@ -1,6 +1,5 @@
 -- The first refusal is told. Assumes nothing.
 use mathlib.Core.Path.{◌∙◌, sym}
-use borrow.Author.Rules.{rules}
 use Rattle.meaning.specs.Form.{refuse_sets}
 use Rattle.form.proofs.Orders.{first_passed, first_told}
 use Rattle.form.proofs.refuse_sets.Goals as goal

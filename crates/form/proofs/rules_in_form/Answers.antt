@@ -1,15 +1,11 @@
 use mathlib.Core.Path.{◌≡◌, sym, ◌∙◌}
 use native.Mathlib.Omega.{arith}
-use Prim.Native.Nat.{◌-◌}
-use borrow.Author.Rules.{rules}
 use borrow.Author.Tests.{le-leb, lt-leb}
-use lib.ListN.{length, drop}
-use Rattle.meaning.specs.Fields.{fields}
-use Rattle.meaning.specs.Form.{rules_in_form, table_of, most_rules}
-use Rattle.meaning.specs.Records.{all_of}
+use lib.ListN.{length}
+use Rattle.meaning.specs.Form.{rules_in_form, most_rules}
 use Rattle.sets.specs.Empty.{zero_rule}
 use Rattle.sets.specs.Inner.{in_form}
-use Rattle.sets.specs.Vocabulary.{rule_of, rule_set_of}
+use Rattle.sets.specs.Vocabulary.{rule_of}
 use Rattle.sets.proofs.Walks.{all_next, all_stop, all_over, length_of_map}
 use Rattle.form.proofs.rules_in_form.Goals as goal
 

@@ -1,17 +1,12 @@
 -- The invariant: the set is in form just if its count is within the limit, and all rules from i on are. Assumes nothing.
-use mathlib.Core.Path.{◌≡◌, sym, ◌∙◌}
-use native.Mathlib.Omega.{arith}
+use mathlib.Core.Path.{◌≡◌}
 use Prim.Native.Nat.{◌-◌}
-use borrow.Author.Rules.{rules}
-use borrow.Author.Tests.{le-leb, lt-leb}
-use lib.ListN.{length, drop}
+use lib.ListN.{drop}
 use Rattle.meaning.specs.Fields.{fields}
 use Rattle.meaning.specs.Form.{rules_in_form, table_of, most_rules}
 use Rattle.meaning.specs.Records.{all_of}
-use Rattle.sets.specs.Empty.{zero_rule}
 use Rattle.sets.specs.Inner.{in_form}
-use Rattle.sets.specs.Vocabulary.{rule_of, rule_set_of}
-use Rattle.sets.proofs.Walks.{all_next, all_stop, all_over, length_of_map}
+use Rattle.sets.specs.Vocabulary.{rule_set_of}
 use Rattle.form.proofs.rules_in_form.Given as goal
 
 abbrev pub invariant-loop-i : goal.invariant-loop-i

@@ -1,5 +1,4 @@
 -- By cases of the action. Assumes nothing.
-use borrow.Author.Rules.{rules}
 use Rattle.meaning.specs.Rules.{same_action}
 use Rattle.front.proofs.accepting.Goals as goal
 

@@ -3,10 +3,8 @@ use native.Mathlib.Omega.{arith}
 use borrow.Author.Rules.{rules}
 use lib.ListN.{length}
 use Rattle.meaning.specs.Form.{most_directives}
-use Rattle.cells.specs.Words.{accepts}
 use Rattle.sets.proofs.Walks.{length_of_map}
-use Rattle.sets.specs.Vocabulary.{directive_of}
-use Rattle.front.proofs.MaskWalk.{MaskFrom, mask_end, mask_more, mask_room, mask_start}
+use Rattle.front.proofs.MaskWalk.{mask_end, mask_more, mask_room, mask_start}
 use Rattle.front.proofs.accepting_directives.Goals as goal
 
 pub loop-i-init : goal.loop-i-init

@@ -1,12 +1,10 @@
 use mathlib.Core.Path.{◌≡◌}
 use native.Mathlib.Omega.{arith}
 use borrow.Author.Rules.{rules}
-use lib.Dec.{eqb}
 use lib.ListN.{length}
-use Rattle.meaning.specs.Form.{Exception, most_exceptions}
+use Rattle.meaning.specs.Form.{most_exceptions}
 use Rattle.sets.proofs.Walks.{length_of_map}
-use Rattle.sets.specs.Vocabulary.{exception_of}
-use Rattle.front.proofs.MaskWalk.{MaskFrom, mask_end, mask_more, mask_room, mask_start}
+use Rattle.front.proofs.MaskWalk.{mask_end, mask_more, mask_room, mask_start}
 use Rattle.front.proofs.exceptions_of.Goals as goal
 
 pub loop-i-init : goal.loop-i-init

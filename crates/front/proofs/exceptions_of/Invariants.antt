@@ -1,13 +1,8 @@
 -- The invariant: the mask is that of the exceptions from i on. Assumes nothing.
-use mathlib.Core.Path.{◌≡◌}
-use native.Mathlib.Omega.{arith}
-use borrow.Author.Rules.{rules}
 use lib.Dec.{eqb}
-use lib.ListN.{length}
-use Rattle.meaning.specs.Form.{Exception, most_exceptions}
-use Rattle.sets.proofs.Walks.{length_of_map}
+use Rattle.meaning.specs.Form.{Exception}
 use Rattle.sets.specs.Vocabulary.{exception_of}
-use Rattle.front.proofs.MaskWalk.{MaskFrom, mask_end, mask_more, mask_room, mask_start}
+use Rattle.front.proofs.MaskWalk.{MaskFrom}
 use Rattle.front.proofs.exceptions_of.Given as goal
 
 abbrev pub invariant-loop-i : goal.invariant-loop-i

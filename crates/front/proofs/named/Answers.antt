@@ -1,7 +1,5 @@
 -- Equal or not. Assumes nothing.
 use borrow.Author.Tests.{eq-eqb, ne_eqb}
-use Rattle.front.proofs.named.Reads as reads
-use Rattle.front.proofs.named.Lts as lts
 use Rattle.front.proofs.named.Goals as goal
 
 pub returns-then-directive-number : goal.returns-then-directive-number

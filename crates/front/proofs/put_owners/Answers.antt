@@ -1,7 +1,4 @@
-use Prim.Native.Nat.{◌-◌}
-use borrow.Author.Rules.{rules}
-use Rattle.sets.specs.Inner.{exceptions_of}
-use Rattle.front.proofs.FrontWords.{OwnersUpTo, owners_end, owners_more, owners_start}
+use Rattle.front.proofs.FrontWords.{owners_end, owners_more, owners_start}
 use Rattle.front.proofs.put_owners.Goals as goal
 
 pub loop-i-init : goal.loop-i-init

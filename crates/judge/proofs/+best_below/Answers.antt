@@ -1,12 +1,11 @@
 use mathlib.Core.Path.{◌∙◌, ◌≡◌, ap, refl}
-use Prim.Native.Nat.{◌+◌, ◌-◌, ◌<◌, ℕ}
+use Prim.Native.Nat.{ℕ}
 use native.Mathlib.Omega.{arith}
-use borrow.Author.Rules.{rules}
 use lib.ListN.{drop}
 use Rattle.meaning.specs.Sizes.{field_count}
 use Rattle.cells.proofs.Telling.{told_true}
-use Rattle.cells.specs.Cells.{chart, left_label}
-use Rattle.judge.proofs.Walking.{Walked, found_last, kept_at_nothing, kept_at_zero, kept_last}
+use Rattle.cells.specs.Cells.{left_label}
+use Rattle.judge.proofs.Walking.{found_last, kept_at_nothing, kept_at_zero, kept_last}
 use Rattle.judge.proofs.Walking.{walked_end, walked_more, walked_past, walked_skip, walked_start}
 use Rattle.judge.proofs.+best_below.Goals as goal
 

@@ -1,5 +1,4 @@
 -- The walk begins at the first field; every rule's rank is below that of good. Assumes nothing.
-use borrow.Author.Rules.{rules}
 use Rattle.judge.proofs.Better.{better_is_best}
 use Rattle.judge.proofs.best_cell.Goals as goal
 

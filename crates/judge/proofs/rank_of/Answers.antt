@@ -1,6 +1,5 @@
 -- Each kind has its rank. Assumes nothing.
 use mathlib.Core.Path.{◌∙◌}
-use borrow.Author.Rules.{rules}
 use Rattle.meaning.proofs.VerdictRanks.{rank_of}
 use Rattle.judge.proofs.Ranking.{rank_of_kind, rank_of_rule, rank_of_unmet}
 use Rattle.judge.proofs.rank_of.Goals as goal

@@ -2,7 +2,6 @@
 -- Assumes nothing.
 use mathlib.Core.Bool.{Bool}
 use mathlib.Core.Path.{sym, ap, ◌∙◌}
-use borrow.Author.Rules.{rules}
 use Rattle.meaning.specs.Blocks.{holds}
 use Rattle.blocks.specs.Vocabulary.{block_of, packet_of}
 use Rattle.sets.specs.Vocabulary.{action_of}

@@ -1,16 +1,14 @@
 use mathlib.Core.Path.{◌≡◌, refl, sym, ◌∙◌}
 use native.Mathlib.Omega.{arith}
-use Prim.Native.Nat.{◌-◌}
-use borrow.Author.Rules.{rules}
 use lib.ListN.{length}
 use Rattle.meaning.specs.Blocks.{holds}
-use Rattle.meaning.specs.Form.{table_of, most_rules}
+use Rattle.meaning.specs.Form.{most_rules}
 use Rattle.meaning.specs.Rules as meaning
 use Rattle.blocks.specs.Vocabulary.{packet_of}
 use Rattle.sets.specs.Empty.{zero_rule}
-use Rattle.sets.specs.Vocabulary.{rule_of, rule_set_of}
+use Rattle.sets.specs.Vocabulary.{rule_of}
 use Rattle.sets.proofs.Walks.{length_of_map}
-use Rattle.labels.proofs.Firsts.{first_left, first_here, first_later, first_over}
+use Rattle.labels.proofs.Firsts.{first_here, first_later, first_over}
 use Rattle.labels.proofs.deciding.Goals as goal
 
 pub loop-passed-init : goal.loop-passed-init

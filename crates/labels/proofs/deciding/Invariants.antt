@@ -1,17 +1,12 @@
 -- The invariant: the deciding rule is the first that holds the packet among those from i on. Assumes nothing.
-use mathlib.Core.Path.{◌≡◌, refl, sym, ◌∙◌}
-use native.Mathlib.Omega.{arith}
+use mathlib.Core.Path.{◌≡◌}
 use Prim.Native.Nat.{◌-◌}
-use borrow.Author.Rules.{rules}
-use lib.ListN.{length}
 use Rattle.meaning.specs.Blocks.{holds}
-use Rattle.meaning.specs.Form.{table_of, most_rules}
+use Rattle.meaning.specs.Form.{table_of}
 use Rattle.meaning.specs.Rules as meaning
 use Rattle.blocks.specs.Vocabulary.{packet_of}
-use Rattle.sets.specs.Empty.{zero_rule}
 use Rattle.sets.specs.Vocabulary.{rule_of, rule_set_of}
-use Rattle.sets.proofs.Walks.{length_of_map}
-use Rattle.labels.proofs.Firsts.{first_left, first_here, first_later, first_over}
+use Rattle.labels.proofs.Firsts.{first_left}
 use Rattle.labels.proofs.deciding.Given as goal
 
 abbrev pub invariant-loop-passed : goal.invariant-loop-passed

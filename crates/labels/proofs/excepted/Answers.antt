@@ -2,7 +2,7 @@ use mathlib.Core.Bool.{true}
 use mathlib.Core.List.{List}
 use mathlib.Core.Path.{subst, subst⁻¹, ◌≡◌}
 use native.Mathlib.Omega.{arith}
-use Prim.Native.Nat.{ℕ, ◌-◌, ◌+◌, ◌<◌}
+use Prim.Native.Nat.{ℕ, ◌+◌, ◌<◌}
 use borrow.Author.Rules.{rules}
 use lib.ListN.{length, drop, get_or, set}
 use Rattle.meaning.specs.Form.{Exception, most_exceptions}

@@ -1,5 +1,4 @@
 -- Each test is made in turn, and the first that fails settles it. Assumes nothing.
-use borrow.Author.Rules.{rules}
 use borrow.Author.Tests.{le-leb, lt-leb}
 use Rattle.labels.proofs.excepted_directive.Goals as goal
 

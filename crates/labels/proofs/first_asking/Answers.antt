@@ -1,14 +1,13 @@
 use mathlib.Core.Path.{◌≡◌, sym, ◌∙◌}
 use native.Mathlib.Omega.{arith}
-use Prim.Native.Nat.{◌-◌, ◌+◌}
+use Prim.Native.Nat.{◌+◌}
 use borrow.Author.Rules.{rules}
 use lib.ListN.{length}
-use Rattle.meaning.specs.Form.{policy_of, most_directives}
-use Rattle.meaning.specs.Policies.{lowest_asking}
+use Rattle.meaning.specs.Form.{most_directives}
 use Rattle.blocks.specs.Vocabulary.{packet_of}
-use Rattle.sets.specs.Vocabulary.{action_of, policy_set_of}
+use Rattle.sets.specs.Vocabulary.{action_of}
 use Rattle.sets.proofs.Walks.{length_of_map}
-use Rattle.labels.proofs.Asking.{asking_left, asking_start, asking_here, asking_later, asking_over}
+use Rattle.labels.proofs.Asking.{asking_start, asking_here, asking_later, asking_over}
 use Rattle.labels.proofs.first_asking.Goals as goal
 
 pub loop-i-init : goal.loop-i-init

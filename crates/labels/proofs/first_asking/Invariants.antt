@@ -1,15 +1,11 @@
 -- The invariant: the lowest directive that asks is the first among those from i on. Assumes nothing.
-use mathlib.Core.Path.{◌≡◌, sym, ◌∙◌}
-use native.Mathlib.Omega.{arith}
-use Prim.Native.Nat.{◌-◌, ◌+◌}
-use borrow.Author.Rules.{rules}
-use lib.ListN.{length}
-use Rattle.meaning.specs.Form.{policy_of, most_directives}
+use mathlib.Core.Path.{◌≡◌}
+use Prim.Native.Nat.{◌-◌}
+use Rattle.meaning.specs.Form.{policy_of}
 use Rattle.meaning.specs.Policies.{lowest_asking}
 use Rattle.blocks.specs.Vocabulary.{packet_of}
 use Rattle.sets.specs.Vocabulary.{action_of, policy_set_of}
-use Rattle.sets.proofs.Walks.{length_of_map}
-use Rattle.labels.proofs.Asking.{asking_left, asking_start, asking_here, asking_later, asking_over}
+use Rattle.labels.proofs.Asking.{asking_left}
 use Rattle.labels.proofs.first_asking.Given as goal
 
 abbrev pub invariant-loop-i : goal.invariant-loop-i

@@ -1,6 +1,5 @@
 -- The rows of the table of kinds. Assumes nothing.
 use mathlib.Core.Path.{◌∙◌}
-use borrow.Author.Rules.{rules}
 use Rattle.meaning.specs.Labels.{judged}
 use Rattle.meaning.specs.Rules.{same_action}
 use Rattle.labels.proofs.judge.Goals as goal

@@ -1,6 +1,5 @@
 -- The rows of the table of kinds where one action is asked. Assumes nothing.
 use mathlib.Core.Path.{sym, ap, ◌∙◌}
-use borrow.Author.Rules.{rules}
 use Rattle.meaning.specs.Labels.{judged}
 use Rattle.meaning.specs.Rules.{same_action}
 use Rattle.sets.specs.Vocabulary.{action_of}

@@ -1,6 +1,5 @@
 -- The label where nothing is refused, and zeros where something is. Assumes nothing.
 use mathlib.Core.Path.{◌∙◌}
-use borrow.Author.Rules.{rules}
 use borrow.Author.Tests.{eq-eqb, ne_eqb}
 use Rattle.labels.proofs.label.Goals as goal
 

@@ -1,6 +1,5 @@
 -- An action is asked just if a directive that asks for it has a number. Assumes nothing.
 use mathlib.Core.Path.{◌∙◌}
-use borrow.Author.Rules.{rules}
 use Rattle.meaning.specs.Form.{policy_of}
 use Rattle.meaning.specs.Labels as labels
 use Rattle.meaning.specs.Rules.{accept, deny}

@@ -1,5 +1,4 @@
 -- One answer for each pair. Assumes nothing.
-use borrow.Author.Rules.{rules}
 use Rattle.meaning.specs.Rules.{same_action}
 use Rattle.labels.proofs.same_action.Goals as goal
 

@@ -1,9 +1,8 @@
 use mathlib.Core.List.{List}
-use mathlib.Core.Path.{◌∙◌, ◌≡◌, ap, refl}
-use Prim.Native.Nat.{◌+◌, ◌-◌, ◌≤◌, ℕ}
+use mathlib.Core.Path.{◌∙◌, ap, refl}
+use Prim.Native.Nat.{◌+◌, ℕ}
 use native.Mathlib.Omega.{arith}
-use borrow.Author.Rules.{rules}
-use lib.ListN.{get_or, length, length-set, set, take}
+use lib.ListN.{get_or, length-set, set}
 use lib.Seq.{sets, take_all}
 use Rattle.layout.proofs.Storing.{number_stored}
 use Rattle.layout.proofs.write_numbers.Goals as goal

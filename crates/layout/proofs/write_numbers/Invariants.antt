@@ -1,12 +1,8 @@
 -- It stores number by number. Assumes nothing.
-use mathlib.Core.List.{List}
-use mathlib.Core.Path.{◌∙◌, ◌≡◌, ap, refl}
-use Prim.Native.Nat.{◌+◌, ◌-◌, ◌≤◌, ℕ}
-use native.Mathlib.Omega.{arith}
-use borrow.Author.Rules.{rules}
-use lib.ListN.{get_or, length, length-set, set, take}
-use lib.Seq.{sets, take_all}
-use Rattle.layout.proofs.Storing.{number_stored}
+use mathlib.Core.Path.{◌≡◌}
+use Prim.Native.Nat.{◌-◌, ◌≤◌}
+use lib.ListN.{length, take}
+use lib.Seq.{sets}
 use Rattle.layout.proofs.write_numbers.Given as goal
 
 abbrev pub invariant-loop-i : goal.invariant-loop-i

@@ -1,5 +1,4 @@
 -- The two calls give the cursor's place and its number. Assumes nothing.
-use borrow.Author.Rules.{rules}
 use Rattle.lines.proofs.behind.Goals as goal
 
 pub returns : goal.returns

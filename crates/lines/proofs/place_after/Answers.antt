@@ -3,7 +3,6 @@ use mathlib.Core.List.{List}
 use mathlib.Core.Path.{◌≡◌, ap}
 use native.Mathlib.Omega.{arith}
 use Prim.Native.Nat.{ℕ}
-use borrow.Author.Rules.{rules}
 use lib.ListN.{length, drop, drop_of_length-le}
 use Rattle.contracts.specs.Answers.{Seen}
 use Rattle.parts.specs.Parts.{part}

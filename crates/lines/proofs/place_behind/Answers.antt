@@ -1,6 +1,5 @@
 -- Below the last place there is room for the line and its byte 10; else the last place is the smaller of the two. Assumes nothing.
 use native.Mathlib.Omega.{arith}
-use borrow.Author.Rules.{rules}
 use Rattle.lines.proofs.place_behind.Goals as goal
 
 pub returns-then-length-at : goal.returns-then-length-at

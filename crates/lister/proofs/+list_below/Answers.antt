@@ -1,17 +1,15 @@
 use mathlib.Core.List.{List}
 use mathlib.Core.Path.{◌≡◌, ◌∙◌, ap, refl, subst}
-use Prim.Native.Nat.{◌+◌, ◌-◌, ◌<◌, ℕ}
+use Prim.Native.Nat.{ℕ}
 use native.Mathlib.Omega.{arith}
-use borrow.Author.Rules.{rules}
 use lib.ListN.{length}
 use Rattle.meaning.specs.Blocks.{Span}
-use Rattle.meaning.specs.Sizes.{field_count}
 use Rattle.cells.proofs.LabelNumbers.{good_is_zero, zero_is_good}
 use Rattle.cells.proofs.Telling.{told_true}
 use Rattle.cells.specs.Cells.{chart, left_label}
 use Rattle.lister.proofs.Listing.{fault_listed, good_listed, nothing_listed}
 use Rattle.lister.proofs.RowLaws.{rows_length_kept}
-use Rattle.lister.proofs.Walking.{ToldTo, listing_end, listing_more, listing_room, listing_start, none_told, one_told, placed_run}
+use Rattle.lister.proofs.Walking.{listing_end, listing_more, listing_room, listing_start, none_told, one_told, placed_run}
 use Rattle.lister.specs.Rows.{RowWith, row_at}
 use Rattle.lister.proofs.+list_below.Goals as goal
 
@@ -68,7 +66,7 @@ pub run_end-next-requires : goal.run_end-next-requires
 run_end-next-requires t c =
     record {
       field_in_bounds = (omega (arith, c.requires.field_le_field_count, c.if-field-eq-FIELDS.false), c.loop-strip-test.true, c.loop-strip.invariant.is_count);
-      formed = c.requires.formed
+      formed = c.requires.formed;
     }
 
 pub span_of-requires : goal.span_of-requires
@@ -77,7 +75,7 @@ span_of-requires t c =
     let run = c.run_end-next.ensures in
     record {
       next_in_bounds = (omega (arith, c.requires.field_le_field_count, c.if-field-eq-FIELDS.false, c.requires.placed.long, run.within, c.loop-strip.invariant.few), run.rises);
-      strip_bound = placed_run (chart a.words.now a.counts.now) a.places.now a.field a.left _ _ _ c.requires.placed c.loop-strip.invariant.is_count run
+      strip_bound = placed_run (chart a.words.now a.counts.now) a.places.now a.field a.left _ _ _ c.requires.placed c.loop-strip.invariant.is_count run;
     }
 
 pub overflow_add-field : goal.overflow_add-field
@@ -114,6 +112,6 @@ pub returns : goal.returns
 returns t c =
     let a = c.args in
     let told =
-        listing_end (chart a.words.now a.counts.now) a.places.now a.field a.left a.row a.buffer.now a.total _ _ _ _
-        c.loop-strip-test.false c.loop-strip.invariant in
+    listing_end (chart a.words.now a.counts.now) a.places.now a.field a.left a.row a.buffer.now a.total _ _ _ _
+    c.loop-strip-test.false c.loop-strip.invariant in
     record { value = told.0; buffer_after = told.1 }

@@ -1,9 +1,6 @@
-use Prim.Native.Nat.{◌-◌}
 use native.Mathlib.Omega.{arith}
-use borrow.Author.Rules.{rules}
 use Rattle.cells.proofs.Telling.{told_false, told_true}
-use Rattle.cells.specs.Cells.{chart}
-use Rattle.lister.proofs.Ending.{Reached, reached_end, reached_more, reached_start, reached_stop}
+use Rattle.lister.proofs.Ending.{reached_end, reached_more, reached_start, reached_stop}
 use Rattle.lister.proofs.run_end.Goals as goal
 
 pub left_at-before-requires : goal.left_at-before-requires

@@ -1,10 +1,7 @@
 -- It goes from strip to strip while they are alike.
 use Prim.Native.Nat.{◌-◌}
-use native.Mathlib.Omega.{arith}
-use borrow.Author.Rules.{rules}
-use Rattle.cells.proofs.Telling.{told_false, told_true}
 use Rattle.cells.specs.Cells.{chart}
-use Rattle.lister.proofs.Ending.{Reached, reached_end, reached_more, reached_start, reached_stop}
+use Rattle.lister.proofs.Ending.{Reached}
 use Rattle.lister.proofs.run_end.Given as goal
 
 abbrev pub invariant-loop-next : goal.invariant-loop-next

@@ -1,7 +1,6 @@
 -- The place of the strip, and the number before the place of the next.
 use mathlib.Core.Path.{sym}
 use native.Mathlib.Omega.{arith}
-use borrow.Author.Rules.{rules}
 use Rattle.lister.proofs.RowLaws.{span_until}
 use Rattle.lister.proofs.span_of.Goals as goal
 

@@ -1,6 +1,5 @@
 -- The row is stored if there is room for it.
 use mathlib.Core.Path.{◌∙◌}
-use borrow.Author.Rules.{rules}
 use Rattle.lister.proofs.RowLaws.{row_fits, row_left_out}
 use Rattle.lister.proofs.write_row.Goals as goal
 

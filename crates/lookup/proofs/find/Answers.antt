@@ -1,11 +1,9 @@
 use mathlib.Core.Path.{◌≡◌, refl, ap, sym, ◌∙◌}
 use native.Mathlib.Omega.{arith}
-use Prim.Native.Nat.{◌+◌, ◌-◌}
-use borrow.Author.Rules.{rules}
-use lib.ListN.{length}
+use Prim.Native.Nat.{◌-◌}
 use Rattle.parts.specs.Parts.{shown}
 use Rattle.lines.proofs.Stepping.{found_after, found_nearer}
-use Rattle.lookup.proofs.Seeking.{Seeks, line_told, seek_first, seek_none, seek_found, seek_past, seek_other}
+use Rattle.lookup.proofs.Seeking.{line_told, seek_first, seek_none, seek_found, seek_past, seek_other}
 use Rattle.lookup.proofs.find.Goals as goal
 
 pub loop-cursor-init : goal.loop-cursor-init

@@ -1,5 +1,4 @@
 -- By which text is named. Assumes nothing.
-use borrow.Author.Rules.{rules}
 use Rattle.lookup.proofs.record_line.Goals as goal
 
 pub returns-in-Rules : goal.returns-in-Rules

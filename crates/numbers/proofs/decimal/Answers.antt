@@ -1,10 +1,8 @@
-use mathlib.Core.Bool.{true}
 use mathlib.Core.Path.{◌≡◌, refl, ap, sym, ◌∙◌}
 use native.Mathlib.Omega.{arith}
-use Prim.Native.Nat.{◌+◌, ◌-◌, ◌*◌, ◌≤◌}
-use borrow.Author.Rules.{rules}
-use lib.ListN.{length, drop, get_or, drop_of_length-le}
-use Rattle.numbers.specs.Decimals.{plain, digits, value}
+use Prim.Native.Nat.{◌+◌, ◌-◌, ◌*◌}
+use lib.ListN.{drop, get_or, drop_of_length-le}
+use Rattle.numbers.specs.Decimals.{digits, value}
 use Rattle.numbers.specs.declared.Number.TheVariants.{Is}
 use Rattle.numbers.proofs.Reckoning.{value_grows, value_at, digit_low, digit_high, digit_good}
 use Rattle.numbers.proofs.Reckoning.{decimal_is, decimal_unplain, decimal_letters, decimal_large}

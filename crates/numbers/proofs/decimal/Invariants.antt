@@ -1,14 +1,9 @@
 -- The invariant: the bytes before i are digits and make the value, which is not past the largest. Assumes nothing.
 use mathlib.Core.Bool.{true}
-use mathlib.Core.Path.{◌≡◌, refl, ap, sym, ◌∙◌}
-use native.Mathlib.Omega.{arith}
-use Prim.Native.Nat.{◌+◌, ◌-◌, ◌*◌, ◌≤◌}
-use borrow.Author.Rules.{rules}
-use lib.ListN.{length, drop, get_or, drop_of_length-le}
+use mathlib.Core.Path.{◌≡◌}
+use Prim.Native.Nat.{◌-◌, ◌≤◌}
+use lib.ListN.{length, drop}
 use Rattle.numbers.specs.Decimals.{plain, digits, value}
-use Rattle.numbers.specs.declared.Number.TheVariants.{Is}
-use Rattle.numbers.proofs.Reckoning.{value_grows, value_at, digit_low, digit_high, digit_good}
-use Rattle.numbers.proofs.Reckoning.{decimal_is, decimal_unplain, decimal_letters, decimal_large}
 use Rattle.numbers.proofs.decimal.Given as goal
 
 abbrev pub invariant-loop-i : goal.invariant-loop-i

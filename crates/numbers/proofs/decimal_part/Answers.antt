@@ -1,6 +1,5 @@
 -- The part's bytes are what `decimal` reads. Assumes nothing.
 use mathlib.Core.Path.{ap, ◌∙◌}
-use borrow.Author.Rules.{rules}
 use Rattle.parts.proofs.Parting.{part_bytes}
 use Rattle.numbers.specs.Decimals.{decimal_of}
 use Rattle.numbers.proofs.decimal_part.Goals as goal

@@ -1,6 +1,5 @@
 -- The three forms in their order. Assumes nothing.
 use mathlib.Core.Path.{ap, ap₂, sym, ◌∙◌}
-use borrow.Author.Rules.{rules}
 use borrow.Author.Tests.{eq-eqb, ne_eqb}
 use Rattle.numbers.specs.Intervals.{single, range, interval_of}
 use Rattle.numbers.proofs.interval.Goals as goal

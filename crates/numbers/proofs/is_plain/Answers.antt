@@ -1,6 +1,5 @@
 -- By the text's length: none, one, or more bytes. Assumes nothing.
 use mathlib.Core.Path.{sym}
-use borrow.Author.Rules.{rules}
 use Rattle.numbers.proofs.Reckoning.{plain_none, plain_one, plain_more}
 use Rattle.numbers.proofs.is_plain.Goals as goal
 

@@ -1,5 +1,4 @@
 -- The text is compared with the one byte. Assumes nothing.
-use borrow.Author.Rules.{rules}
 use Rattle.numbers.proofs.is_star.Goals as goal
 
 pub returns : goal.returns

@@ -1,9 +1,6 @@
-use mathlib.Core.Path.{◌≡◌, ap}
+use mathlib.Core.Path.{ap}
 use native.Mathlib.Omega.{arith}
-use Prim.Native.Nat.{◌+◌, ◌-◌, ◌≤◌}
-use borrow.Author.Rules.{rules}
-use lib.ListN.{length, drop}
-use Rattle.parts.specs.Parts.{parts}
+use lib.ListN.{length}
 use Rattle.parts.proofs.Parting.{at_separator, other_count, at_end}
 use Rattle.parts.proofs.count.Goals as goal
 

@@ -1,11 +1,8 @@
 -- The invariant: the separators found so far, and the parts of the rest, make the parts of the whole. Assumes nothing.
-use mathlib.Core.Path.{◌≡◌, ap}
-use native.Mathlib.Omega.{arith}
+use mathlib.Core.Path.{◌≡◌}
 use Prim.Native.Nat.{◌+◌, ◌-◌, ◌≤◌}
-use borrow.Author.Rules.{rules}
 use lib.ListN.{length, drop}
 use Rattle.parts.specs.Parts.{parts}
-use Rattle.parts.proofs.Parting.{at_separator, other_count, at_end}
 use Rattle.parts.proofs.count.Given as goal
 
 abbrev pub invariant-loop-i : goal.invariant-loop-i

@@ -1,8 +1,7 @@
 use mathlib.Core.List.{List, []}
 use mathlib.Core.Path.{◌≡◌, ap, sym, ◌∙◌}
 use native.Mathlib.Omega.{arith}
-use Prim.Native.Nat.{ℕ, suc, ◌+◌, ◌-◌, ◌≤◌}
-use borrow.Author.Rules.{rules}
+use Prim.Native.Nat.{ℕ, suc, ◌+◌, ◌-◌}
 use lib.ListN.{length, drop, get_or, take}
 use Rattle.parts.specs.Parts.{Piece, parts, pieces_from, piece, shown}
 use Rattle.parts.proofs.Parting.{pieces_next, pieces_last, piece_here}

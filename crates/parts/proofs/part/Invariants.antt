@@ -1,12 +1,9 @@
 -- The invariant: the part wanted is the one that many parts after the one at start. Assumes nothing.
-use mathlib.Core.List.{List, []}
-use mathlib.Core.Path.{◌≡◌, ap, sym, ◌∙◌}
-use native.Mathlib.Omega.{arith}
-use Prim.Native.Nat.{ℕ, suc, ◌+◌, ◌-◌, ◌≤◌}
-use borrow.Author.Rules.{rules}
-use lib.ListN.{length, drop, get_or, take}
-use Rattle.parts.specs.Parts.{Piece, parts, pieces_from, piece, shown}
-use Rattle.parts.proofs.Parting.{pieces_next, pieces_last, piece_here}
+use mathlib.Core.List.{[]}
+use mathlib.Core.Path.{◌≡◌}
+use Prim.Native.Nat.{◌-◌, ◌≤◌}
+use lib.ListN.{length, drop, get_or}
+use Rattle.parts.specs.Parts.{parts, pieces_from, piece}
 use Rattle.parts.proofs.part.Given as goal
 
 abbrev pub invariant-loop-passed : goal.invariant-loop-passed

@@ -1,10 +1,8 @@
 use mathlib.Core.List.{List, []}
-use mathlib.Core.Path.{◌≡◌, ap}
+use mathlib.Core.Path.{ap}
 use native.Mathlib.Omega.{arith}
-use Prim.Native.Nat.{ℕ, ◌+◌, ◌-◌, ◌≤◌}
-use borrow.Author.Rules.{rules}
-use lib.ListN.{length, drop, get_or}
-use Rattle.parts.specs.Parts.{part}
+use Prim.Native.Nat.{ℕ}
+use lib.ListN.{length, get_or}
 use Rattle.parts.proofs.Parting.{at_separator, other_first, at_end}
 use Rattle.parts.proofs.part_end.Goals as goal
 

@@ -1,12 +1,8 @@
 -- The invariant: no separator stands between start and end. Assumes nothing.
-use mathlib.Core.List.{List, []}
-use mathlib.Core.Path.{◌≡◌, ap}
-use native.Mathlib.Omega.{arith}
-use Prim.Native.Nat.{ℕ, ◌+◌, ◌-◌, ◌≤◌}
-use borrow.Author.Rules.{rules}
-use lib.ListN.{length, drop, get_or}
+use mathlib.Core.Path.{◌≡◌}
+use Prim.Native.Nat.{◌+◌, ◌-◌, ◌≤◌}
+use lib.ListN.{length, drop}
 use Rattle.parts.specs.Parts.{part}
-use Rattle.parts.proofs.Parting.{at_separator, other_first, at_end}
 use Rattle.parts.proofs.part_end.Given as goal
 
 abbrev pub invariant-loop-end : goal.invariant-loop-end

@@ -1,6 +1,5 @@
 -- Its action and block, where there is room. Assumes nothing.
 use mathlib.Core.Path.{sym, ◌∙◌}
-use borrow.Author.Rules.{rules}
 use Rattle.policy_text.specs.PolicyTexts.{ask_line}
 use Rattle.policy_text.proofs.ask_line.Goals as goal
 

@@ -1,6 +1,5 @@
 -- The fields are read before the exception is held against its directive. Assumes nothing.
 use mathlib.Core.Path.{sym, ◌∙◌}
-use borrow.Author.Rules.{rules}
 use Rattle.policy_text.specs.PolicyTexts.{but_fields}
 use Rattle.policy_text.proofs.but_fields.Goals as goal
 

@@ -1,7 +1,6 @@
 -- The tests in the paper's order: 4, 11, 13, and then the fields. Assumes nothing.
 use mathlib.Core.Path.{sym, ◌∙◌}
 use Prim.Native.Nat.{◌+◌}
-use borrow.Author.Rules.{rules}
 use borrow.Author.Tests.{eq-eqb, ne_eqb, le-leb, lt-leb}
 use Rattle.meaning.specs.Form.{most_exceptions}
 use Rattle.meaning.specs.Sizes.{field_count}

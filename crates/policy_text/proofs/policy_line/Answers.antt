@@ -1,6 +1,5 @@
 -- By the line's first word. Assumes nothing.
 use mathlib.Core.Path.{sym, ◌∙◌}
-use borrow.Author.Rules.{rules}
 use Rattle.policy_text.specs.PolicyTexts.{policy_line}
 use Rattle.policy_text.proofs.policy_line.Goals as goal
 

@@ -1,11 +1,8 @@
 use mathlib.Core.Path.{sym, ◌∙◌}
 use native.Mathlib.Omega.{arith}
-use Prim.Native.Nat.{◌+◌, ◌-◌}
-use borrow.Author.Rules.{rules}
-use lib.ListN.{length}
 use Rattle.lines.proofs.Stepping.{found_nearer}
 use Rattle.policy_text.specs.declared.PolicyLine.TheVariants.{Ask, But}
-use Rattle.policy_text.proofs.PolicyReading.{Read, read_none, read_all, right, few_asked, read_skip, read_ask, read_but, read_stop}
+use Rattle.policy_text.proofs.PolicyReading.{read_none, read_all, right, few_asked, read_skip, read_ask, read_but, read_stop}
 use Rattle.policy_text.proofs.read_lines.Goals as goal
 
 pub loop-cursor-init : goal.loop-cursor-init

@@ -1,12 +1,7 @@
 -- The invariant: the set is that of what is read so far, and the answer to the rest of the lines is the answer to all. Assumes nothing.
-use mathlib.Core.Path.{sym, ◌∙◌}
-use native.Mathlib.Omega.{arith}
 use Prim.Native.Nat.{◌+◌, ◌-◌}
-use borrow.Author.Rules.{rules}
 use lib.ListN.{length}
-use Rattle.lines.proofs.Stepping.{found_nearer}
-use Rattle.policy_text.specs.declared.PolicyLine.TheVariants.{Ask, But}
-use Rattle.policy_text.proofs.PolicyReading.{Read, read_none, read_all, right, few_asked, read_skip, read_ask, read_but, read_stop}
+use Rattle.policy_text.proofs.PolicyReading.{Read}
 use Rattle.policy_text.proofs.read_lines.Given as goal
 
 abbrev pub invariant-loop-cursor : goal.invariant-loop-cursor

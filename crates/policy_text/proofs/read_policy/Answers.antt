@@ -1,6 +1,5 @@
 -- 1 and 2 over the whole text, and then its lines. Assumes nothing.
 use mathlib.Core.Path.{◌≡◌, sym, ap, ◌∙◌}
-use borrow.Author.Rules.{rules}
 use borrow.Author.Tests.{eq-eqb, ne_eqb}
 use Rattle.sets.specs.declared.Refusal.{Refusal}
 use Rattle.texts.specs.Texts.{refuse_text}

@@ -1,5 +1,4 @@
 -- The empty set is the set of nothing asked. Assumes nothing.
-use borrow.Author.Rules.{rules}
 use Rattle.policy_text.proofs.refuse.Goals as goal
 
 pub returns : goal.returns

@@ -1,5 +1,4 @@
 -- It puts a space, then the address.
-use borrow.Author.Rules.{rules}
 use Rattle.printing.proofs.Spacing.{put_field}
 use Rattle.printing.proofs.put_address.Goals as goal
 

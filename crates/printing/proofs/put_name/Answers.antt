@@ -1,5 +1,4 @@
 -- It puts a space, then the name.
-use borrow.Author.Rules.{rules}
 use Rattle.printing.proofs.Spacing.{put_field}
 use Rattle.printing.proofs.put_name.Goals as goal
 

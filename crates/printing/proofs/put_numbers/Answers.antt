@@ -1,5 +1,4 @@
 -- Low, then high.
-use borrow.Author.Rules.{rules}
 use Rattle.printing.proofs.Spacing.{put_fields}
 use Rattle.printing.proofs.put_numbers.Goals as goal
 

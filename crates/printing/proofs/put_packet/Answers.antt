@@ -1,5 +1,4 @@
 -- Number by number.
-use borrow.Author.Rules.{rules}
 use Rattle.printing.proofs.Spacing.{put_fields}
 use Rattle.printing.proofs.put_packet.Goals as goal
 

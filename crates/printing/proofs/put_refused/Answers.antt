@@ -1,5 +1,4 @@
 -- Field by field.
-use borrow.Author.Rules.{rules}
 use Rattle.putting.proofs.Putting.{put_then}
 use Rattle.printing.proofs.Spacing.{put_fields}
 use Rattle.printing.specs.Lines.{refused_line}

@@ -1,5 +1,4 @@
 -- The word, a space, the total, the line's end.
-use borrow.Author.Rules.{rules}
 use Rattle.putting.proofs.Putting.{put_then}
 use Rattle.printing.proofs.Spacing.{put_field}
 use Rattle.printing.specs.Lines.{blocks_line}

@@ -1,5 +1,4 @@
 -- The word, the name, the line's end.
-use borrow.Author.Rules.{rules}
 use Rattle.putting.proofs.Putting.{put_then}
 use Rattle.printing.specs.Lines.{unreadable_line}
 use Rattle.printing.proofs.put_unreadable.Goals as goal

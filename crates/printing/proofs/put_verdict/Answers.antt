@@ -2,7 +2,6 @@
 use mathlib.Core.List.{[], ◌∷◌}
 use mathlib.Core.Path.{◌∙◌, ap, sym}
 use Prim.Native.Nat.{ℕ}
-use borrow.Author.Rules.{rules}
 use borrow.Author.Tests.{eq-eqb, ne_eqb}
 use Rattle.putting.specs.Spelling.{decimal}
 use Rattle.putting.proofs.Putting.{put_same, put_then}

@@ -1,7 +1,6 @@
 -- The word of each kind.
 use mathlib.Core.List.{[], ◌∷◌}
 use mathlib.Core.Path.{ap, sym}
-use borrow.Author.Rules.{rules}
 use Rattle.printing.proofs.Spacing.{fields_same}
 use Rattle.printing.specs.Lines.{word}
 use Rattle.sets.specs.Vocabulary.{label_of}

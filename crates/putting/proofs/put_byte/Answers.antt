@@ -1,5 +1,4 @@
 -- It stores where there is room.
-use borrow.Author.Rules.{rules}
 use Rattle.putting.proofs.Putting.{put_past, put_stored}
 use Rattle.putting.proofs.put_byte.Goals as goal
 

@@ -1,11 +1,7 @@
-use mathlib.Core.Path.{◌∙◌, ◌≡◌, refl}
-use Prim.Native.Nat.{◌-◌, ◌≤◌}
+use mathlib.Core.Path.{◌∙◌, refl}
 use native.Mathlib.Omega.{arith}
-use borrow.Author.Rules.{rules}
-use lib.ListN.{length, take}
 use lib.Seq.{take_all}
 use Rattle.putting.proofs.Putting.{put_length, put_more, put_nothing, put_same}
-use Rattle.putting.specs.Putting.{Put}
 use Rattle.putting.proofs.put_bytes.Goals as goal
 
 pub loop-i-init : goal.loop-i-init

@@ -1,6 +1,5 @@
 -- It puts a dot, then the octet.
 use mathlib.Core.Path.{ap}
-use borrow.Author.Rules.{rules}
 use Rattle.putting.proofs.Putting.{put_same, put_then}
 use Rattle.putting.specs.Spelling.{decimal}
 use Rattle.putting.proofs.put_octet.Goals as goal

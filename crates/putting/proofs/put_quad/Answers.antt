@@ -1,6 +1,5 @@
 -- Octet by octet.
 use mathlib.Core.Path.{ap}
-use borrow.Author.Rules.{rules}
 use Rattle.putting.proofs.Putting.{put_same, put_then}
 use Rattle.putting.specs.Spelling.{decimal, quad}
 use Rattle.putting.proofs.put_quad.Goals as goal

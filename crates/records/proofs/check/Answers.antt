@@ -1,5 +1,4 @@
 -- By what the bounds are. Assumes nothing.
-use borrow.Author.Rules.{rules}
 use Rattle.records.proofs.check.Goals as goal
 
 pub returns-in-Are : goal.returns-in-Are

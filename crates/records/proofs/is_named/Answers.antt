@@ -2,7 +2,6 @@
 use mathlib.Core.List.{List}
 use mathlib.Core.Path.{ap, ◌∙◌}
 use Prim.Native.Nat.{ℕ}
-use borrow.Author.Rules.{rules}
 use Rattle.parts.specs.Fields.{field_piece}
 use Rattle.parts.specs.Parts.{same}
 use Rattle.parts.proofs.Parting.{shown_bytes}

@@ -1,6 +1,5 @@
 -- By whether the line has a first byte. Assumes nothing.
 use mathlib.Core.Path.{sym}
-use borrow.Author.Rules.{rules}
 use Rattle.records.proofs.Lines.{skipped_none, skipped_some}
 use Rattle.records.proofs.is_skipped.Goals as goal
 

@@ -1,5 +1,4 @@
 -- A port is an interval of numbers up to the largest. Assumes nothing.
-use borrow.Author.Rules.{rules}
 use Rattle.records.specs.Services.{port_of}
 use Rattle.records.proofs.port.Goals as goal
 

@@ -1,6 +1,5 @@
 -- The three words in their order, and then an interval. Assumes nothing.
 use mathlib.Core.Path.{sym, ◌∙◌}
-use borrow.Author.Rules.{rules}
 use Rattle.records.specs.Services.{protocol_of}
 use Rattle.records.proofs.protocol.Goals as goal
 

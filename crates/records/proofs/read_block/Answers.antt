@@ -1,8 +1,6 @@
 use native.Mathlib.Omega.{arith}
-use Prim.Native.Nat.{◌+◌, ◌-◌}
-use borrow.Author.Rules.{rules}
-use Rattle.meaning.specs.Sizes.{field_count}
-use Rattle.records.proofs.Fieldwise.{has_read, Read, read_none, read_more, read_stop, read_all}
+use Prim.Native.Nat.{◌+◌}
+use Rattle.records.proofs.Fieldwise.{has_read, read_none, read_more, read_stop, read_all}
 use Rattle.records.proofs.read_block.Goals as goal
 
 pub loop-i-init : goal.loop-i-init

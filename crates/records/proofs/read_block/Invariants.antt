@@ -1,9 +1,7 @@
 -- The invariant: the fields so far are read, and their bounds stand in front. Assumes nothing.
-use native.Mathlib.Omega.{arith}
-use Prim.Native.Nat.{◌+◌, ◌-◌}
-use borrow.Author.Rules.{rules}
+use Prim.Native.Nat.{◌-◌}
 use Rattle.meaning.specs.Sizes.{field_count}
-use Rattle.records.proofs.Fieldwise.{has_read, Read, read_none, read_more, read_stop, read_all}
+use Rattle.records.proofs.Fieldwise.{Read}
 use Rattle.records.proofs.read_block.Given as goal
 
 abbrev pub invariant-loop-i : goal.invariant-loop-i

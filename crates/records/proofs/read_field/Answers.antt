@@ -1,6 +1,5 @@
 -- By which fields have which reader. Assumes nothing.
 use mathlib.Core.Path.{sym, ap, ◌∙◌}
-use borrow.Author.Rules.{rules}
 use Rattle.records.specs.Readers.{Reader, check}
 use Rattle.records.proofs.Fieldwise.{reads_address, reads_protocol, reads_port}
 use Rattle.records.proofs.read_field.Goals as goal

@@ -1,7 +1,6 @@
 -- The tests in the paper's order: 4, 13, and then the fields from the left. Assumes nothing.
 use mathlib.Core.Path.{sym, ◌∙◌}
 use Prim.Native.Nat.{◌+◌}
-use borrow.Author.Rules.{rules}
 use borrow.Author.Tests.{eq-eqb, ne_eqb}
 use Rattle.meaning.specs.Sizes.{field_count}
 use Rattle.records.specs.Records.{read_record}

@@ -1,6 +1,5 @@
 -- Kind, rule and bounds, as a line. Assumes nothing.
 use mathlib.Core.Path.{◌∙◌, refl}
-use borrow.Author.Rules.{rules}
 use Rattle.putting.proofs.Putting.{put_same}
 use Rattle.report.proofs.RowLines.{row_line_lem}
 use Rattle.report.proofs.put_row.Goals as goal

@@ -1,10 +1,6 @@
 use mathlib.Core.Path.{◌∙◌, ◌≡◌, ap, refl, sym}
-use Prim.Native.Nat.{◌-◌, ◌≤◌}
 use native.Mathlib.Omega.{arith}
-use borrow.Author.Rules.{rules}
-use lib.ListN.{length}
 use Rattle.putting.proofs.Putting.{put_length, put_nothing, put_same, put_then}
-use Rattle.putting.specs.Putting.{Put}
 use Rattle.report.proofs.RowLines.{lines_more}
 use Rattle.report.specs.Inner.{row_lines}
 use Rattle.report.proofs.put_rows.Goals as goal

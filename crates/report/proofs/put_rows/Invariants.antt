@@ -1,12 +1,8 @@
 -- Row by row.
-use mathlib.Core.Path.{◌∙◌, ◌≡◌, ap, refl, sym}
+use mathlib.Core.Path.{◌≡◌}
 use Prim.Native.Nat.{◌-◌, ◌≤◌}
-use native.Mathlib.Omega.{arith}
-use borrow.Author.Rules.{rules}
 use lib.ListN.{length}
-use Rattle.putting.proofs.Putting.{put_length, put_nothing, put_same, put_then}
 use Rattle.putting.specs.Putting.{Put}
-use Rattle.report.proofs.RowLines.{lines_more}
 use Rattle.report.specs.Inner.{row_lines}
 use Rattle.report.proofs.put_rows.Given as goal
 

@@ -1,5 +1,4 @@
 -- Case by case.
-use borrow.Author.Rules.{rules}
 use Rattle.report.proofs.Reporting.{files_read, policy_unread, rules_unread}
 use Rattle.report.proofs.report.Goals as goal
 

@@ -1,5 +1,4 @@
 -- Case by case.
-use borrow.Author.Rules.{rules}
 use Rattle.report.proofs.Reporting.{policy_refused_put, rules_refused_put, sets_in_form, sets_put}
 use Rattle.report.proofs.report_texts.Goals as goal
 

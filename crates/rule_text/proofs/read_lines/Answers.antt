@@ -1,10 +1,7 @@
 use mathlib.Core.Path.{sym, ◌∙◌}
 use native.Mathlib.Omega.{arith}
-use Prim.Native.Nat.{◌+◌, ◌-◌}
-use borrow.Author.Rules.{rules}
-use lib.ListN.{length}
 use Rattle.lines.proofs.Stepping.{found_nearer}
-use Rattle.rule_text.proofs.RuleReading.{Read, read_none, read_all, has_room, read_skip, read_more, read_stop}
+use Rattle.rule_text.proofs.RuleReading.{read_none, read_all, has_room, read_skip, read_more, read_stop}
 use Rattle.rule_text.proofs.read_lines.Goals as goal
 
 pub loop-cursor-init : goal.loop-cursor-init

@@ -1,5 +1,4 @@
 -- The empty set is the set of no rules. Assumes nothing.
-use borrow.Author.Rules.{rules}
 use Rattle.rule_text.proofs.refuse.Goals as goal
 
 pub returns : goal.returns

@@ -1,6 +1,5 @@
 -- By the line's first word. Assumes nothing.
 use mathlib.Core.Path.{sym, ◌∙◌}
-use borrow.Author.Rules.{rules}
 use Rattle.rule_text.specs.RuleTexts.{rule_line}
 use Rattle.rule_text.proofs.rule_line.Goals as goal
 

@@ -1,6 +1,5 @@
 -- Its action and block, where there is room. Assumes nothing.
 use mathlib.Core.Path.{sym, ◌∙◌}
-use borrow.Author.Rules.{rules}
 use Rattle.rule_text.specs.RuleTexts.{rule_record}
 use Rattle.rule_text.proofs.rule_record.Goals as goal
 

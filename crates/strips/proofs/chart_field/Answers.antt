@@ -1,5 +1,4 @@
 -- The places are found, and then their masks filled. Assumes nothing.
-use borrow.Author.Rules.{rules}
 use Rattle.strips.proofs.Masking.{field_charted}
 use Rattle.strips.proofs.chart_field.Goals as goal
 

@@ -2,7 +2,6 @@
 use mathlib.Core.Path.{sym}
 use Prim.Native.Nat.{◌+◌, ◌*◌}
 use native.Mathlib.Omega.{arith}
-use borrow.Author.Rules.{rules}
 use Rattle.meaning.specs.Sizes.{block_bounds}
 use Rattle.strips.proofs.SpanMasks.{holding_it, not_holding_low, not_holding_high}
 use Rattle.strips.proofs.digit.Goals as goal

@@ -1,8 +1,6 @@
 use mathlib.Core.Path.{refl}
-use Prim.Native.Nat.{◌+◌, ◌≤◌}
 use native.Mathlib.Omega.{arith}
-use borrow.Author.Rules.{rules}
-use Rattle.strips.proofs.SpanMasks.{HoldingFrom, holding_room, holding_start, holding_next, holding_end}
+use Rattle.strips.proofs.SpanMasks.{holding_room, holding_start, holding_next, holding_end}
 use Rattle.strips.proofs.holding.Goals as goal
 
 pub loop-j-init : goal.loop-j-init

@@ -1,9 +1,6 @@
 -- The invariant: the mask is that of the spans from block j on. Assumes nothing.
-use mathlib.Core.Path.{refl}
 use Prim.Native.Nat.{◌+◌, ◌≤◌}
-use native.Mathlib.Omega.{arith}
-use borrow.Author.Rules.{rules}
-use Rattle.strips.proofs.SpanMasks.{HoldingFrom, holding_room, holding_start, holding_next, holding_end}
+use Rattle.strips.proofs.SpanMasks.{HoldingFrom}
 use Rattle.strips.proofs.holding.Given as goal
 
 abbrev pub invariant-loop-j : goal.invariant-loop-j

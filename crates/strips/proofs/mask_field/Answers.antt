@@ -1,9 +1,6 @@
-use Prim.Native.Nat.{◌+◌, ◌-◌}
 use native.Mathlib.Omega.{arith}
-use borrow.Author.Rules.{rules}
 use lib.ListN.{length-set}
-use Rattle.bounds.specs.Spans.{spans_in}
-use Rattle.strips.proofs.Masking.{Masking, masking_start, masking_more, masking_end}
+use Rattle.strips.proofs.Masking.{masking_start, masking_more, masking_end}
 use Rattle.strips.proofs.mask_field.Goals as goal
 
 pub loop-i-init : goal.loop-i-init

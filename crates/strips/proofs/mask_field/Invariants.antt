@@ -1,10 +1,7 @@
 -- The invariant: the masks at the first i places are filled. Assumes nothing.
 use Prim.Native.Nat.{◌+◌, ◌-◌}
-use native.Mathlib.Omega.{arith}
-use borrow.Author.Rules.{rules}
-use lib.ListN.{length-set}
 use Rattle.bounds.specs.Spans.{spans_in}
-use Rattle.strips.proofs.Masking.{Masking, masking_start, masking_more, masking_end}
+use Rattle.strips.proofs.Masking.{Masking}
 use Rattle.strips.proofs.mask_field.Given as goal
 
 abbrev pub invariant-loop-i : goal.invariant-loop-i

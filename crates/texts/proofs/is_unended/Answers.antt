@@ -1,5 +1,4 @@
 -- By whether there is a last byte. Assumes nothing.
-use borrow.Author.Rules.{rules}
 use borrow.Author.Tests.{lt-ltb, le-ltb}
 use Rattle.texts.proofs.is_unended.Goals as goal
 

@@ -1,6 +1,5 @@
 -- Each span is asked in turn, and the first that does not hold its number settles it. Assumes nothing.
 use mathlib.Core.Bool.{and-true}
-use borrow.Author.Rules.{rules}
 use Rattle.meaning.specs.Blocks.{holds}
 use Rattle.blocks.proofs.Block.holds.Goals as goal
 

@@ -1,6 +1,5 @@
 -- A block is in form if it rises and lies inside the widest. Assumes nothing.
 use mathlib.Core.Path.{◌∙◌, sym}
-use borrow.Author.Rules.{rules}
 use Rattle.meaning.specs.Fields.{widths}
 use Rattle.blocks.specs.Vocabulary.{block_of}
 use Rattle.blocks.proofs.Widest.{block_form_by_widest}

@@ -1,6 +1,5 @@
 -- Each pair of spans is asked in turn, and the first that does not lie inside settles it. Assumes nothing.
 use mathlib.Core.Bool.{and-true}
-use borrow.Author.Rules.{rules}
 use Rattle.meaning.specs.Blocks.{inside}
 use Rattle.blocks.proofs.Block.inside.Goals as goal
 

@@ -1,5 +1,4 @@
 -- The field takes its narrowed span, the others stay. Assumes nothing.
-use borrow.Author.Rules.{rules}
 use Rattle.meaning.specs.Blocks.{narrow, narrows}
 use Rattle.blocks.proofs.Block.narrow_source.Goals as goal
 

@@ -1,6 +1,5 @@
 -- A packet is in form if the widest block holds it. Assumes nothing.
 use mathlib.Core.Path.{◌∙◌, sym}
-use borrow.Author.Rules.{rules}
 use Rattle.meaning.specs.Fields.{widths}
 use Rattle.blocks.specs.Vocabulary.{packet_of}
 use Rattle.blocks.proofs.Widest.{packet_form_by_widest}

@@ -1,5 +1,4 @@
 -- The higher low and the lower high bound the numbers shared, if the one is not above the other. Assumes nothing.
-use borrow.Author.Rules.{rules}
 use borrow.Author.Tests.{le-leb, lt-leb}
 use Rattle.meaning.specs.Blocks.{shares, narrow_span}
 use Rattle.blocks.proofs.Span.narrow.Goals as goal

@@ -1,5 +1,4 @@
 -- One number for each case. Assumes nothing.
-use borrow.Author.Rules.{rules}
 use Rattle.meaning.specs.Labels.{kind}
 use Rattle.sets.proofs.Label.kind.Goals as goal
 

@@ -1,5 +1,4 @@
 -- The number that the label carries, or 0. Assumes nothing.
-use borrow.Author.Rules.{rules}
 use Rattle.meaning.specs.Labels.{rule}
 use Rattle.sets.proofs.Label.rule.Goals as goal
 
