@@ -12,9 +12,9 @@ mod arguments;
 mod input;
 mod lending;
 mod puts;
-mod records;
 mod replies;
 mod requests;
+mod set_records;
 
 ghost use Rattle.std.specs.Prelude.{◌≤◌, length, IfOk};
 

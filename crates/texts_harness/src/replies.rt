@@ -2,8 +2,8 @@
 
 ghost use Rattle.std.specs.Prelude.{◌≤◌, length};
 
-use crate::records::Told;
 use crate::requests::Request;
+use crate::set_records::Told;
 use crate::{answers, lending};
 use lookup::Which;
 use policy_text::PolicyRead;
