@@ -3,8 +3,8 @@
 
 use blocks::{Block, Packet};
 use labels::Decided;
-use libc::STDOUT_FILENO;
 use sets::{Action, Refusal, Rule, Rules};
+use std::io::{Print, Result};
 
 // An answer as far as it is made: how many bytes it has in the buffer.
 #[derive(Clone, Copy)]
@@ -114,11 +114,12 @@ impl Answer {
     }
 
     // Ends the line and writes it to standard output.
-    pub(crate) fn send(self, output: &mut [u8]) {
+    pub(crate) fn send(self, rt: &impl Print, output: &mut [u8]) -> Result<()> {
         let length = self.byte(output, b'\n').length;
         if length <= output.len() {
-            io::write_all(STDOUT_FILENO, &output[0..length]);
+            return rt.write_all(&output[0..length]);
         }
+        Ok(())
     }
 }
 

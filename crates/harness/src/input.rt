@@ -1,8 +1,8 @@
 // The input as a stream: a buffer, and which of its bytes are read from the input but not answered yet.
 
-ghost use Rattle.std.specs.Prelude.{◌+◌, ◌≤◌, length};
+ghost use Rattle.std.specs.Prelude.{◌+◌, ◌≤◌, length, IfOk};
 
-use libc::STDIN_FILENO;
+use std::io::{Input, Read, Result};
 
 // More bytes than a line has: a letter, and sixteen times a space and ten digits; or words behind `#`.
 const MOST_BYTES: usize = 1024;
@@ -17,21 +17,36 @@ pub(crate) struct Unread {
 impl Unread {
     // Sees to it that the buffer has a whole line, if the input has one: where less than the longest is left, that moves to the
     // start, and the room behind it is filled from the input.
-    pub(crate) fn refill(self, buffer: &mut [u8]) -> Unread
+    pub(crate) fn refill(self, rt: &impl Input, buffer: &mut [u8]) -> Result<Unread>
         requires { (self.start ≤ self.end) × (self.end ≤ length buffer.old) }
-        ensures { (result.start ≤ result.end) × (result.end ≤ length buffer.new) }
+        ensures { IfOk result (λ unread. (unread.start ≤ unread.end) × (unread.end ≤ length buffer.new)) }
     {
         let left = self.end - self.start;
         if MOST_BYTES <= left {
-            return self;
+            return Ok(self);
         }
         shift(buffer, self.start, left);
-        let more = io::read_full(STDIN_FILENO, &mut buffer[left..]);
-        Unread {
+        let more = read_full(&mut rt.reader(), &mut buffer[left..])?;
+        Ok(Unread {
             start: 0,
             end: left + more,
-        }
+        })
     }
+}
+
+// Reads until the buffer is full or the input ends, and gives how many bytes were read.
+fn read_full(reader: &mut impl Read, buffer: &mut [u8]) -> Result<usize>
+    ensures { IfOk result (λ end. end ≤ length buffer.new) }
+{
+    let mut end: usize = 0;
+    while end < buffer.len() {
+        let more = reader.read(&mut buffer[end..])?;
+        if more == 0 {
+            break;
+        }
+        end += more;
+    }
+    Ok(end)
 }
 
 // Moves so many bytes from a place to the start of the buffer.

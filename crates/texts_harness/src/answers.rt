@@ -1,7 +1,7 @@
 // Answers as they are made in a buffer. Each function adds something behind the bytes that are there, as far as there is room,
 // and gives how many there are then.
 
-use libc::STDOUT_FILENO;
+use std::io::{Print, Result};
 
 // Adds bytes.
 pub(crate) fn put_bytes(output: &mut [u8], start: usize, bytes: &[u8]) -> usize {
@@ -30,11 +30,12 @@ pub(crate) fn put_number(output: &mut [u8], start: usize, number: u64) -> usize 
 }
 
 // Ends the answer and writes it to standard output.
-pub(crate) fn send(output: &mut [u8], start: usize) {
+pub(crate) fn send(rt: &impl Print, output: &mut [u8], start: usize) -> Result<()> {
     let length = put_byte(output, start, b'\n');
     if length <= output.len() {
-        io::write_all(STDOUT_FILENO, &output[0..length]);
+        return rt.write_all(&output[0..length]);
     }
+    Ok(())
 }
 
 // Adds a byte.

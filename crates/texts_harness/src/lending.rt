@@ -4,6 +4,7 @@
 ghost use Rattle.std.specs.Prelude.{◌≤◌, length};
 
 use crate::{answers, puts};
+use std::io::{Print, Result};
 
 // The most bytes that a report is lent, and how many there are with those behind.
 const MOST_ROOM: usize = 4096;
@@ -18,12 +19,13 @@ const PUT_BYTES: usize = 216;
 // `O which room length length`, with a rule text and a policy text: the place that the report gave, and the array after it. By
 // `which` the rules can be read if it is odd, the policy if half of it is.
 pub(crate) fn tell_report(
+    rt: &impl Print,
     which: usize,
     room: usize,
     rules: &[u8],
     policy: &[u8],
     output: &mut [u8],
-) {
+) -> Result<()> {
     let mut bytes = [0u8; REPORT_BYTES];
     let place = report(
         which,
@@ -32,14 +34,20 @@ pub(crate) fn tell_report(
         policy,
         &mut bytes,
     );
-    tell(b"report", place, &bytes, output);
+    tell(rt, b"report", place, &bytes, output)
 }
 
 // `V which start length`, with a payload of arguments: the place that a call of `puts` gave, and the array after it.
-pub(crate) fn tell_put(which: usize, start: usize, payload: &[u8], output: &mut [u8]) {
+pub(crate) fn tell_put(
+    rt: &impl Print,
+    which: usize,
+    start: usize,
+    payload: &[u8],
+    output: &mut [u8],
+) -> Result<()> {
     let mut bytes = [0u8; PUT_BYTES];
     let place = put(which, start, payload, &mut bytes);
-    tell(b"put", place, &bytes, output);
+    tell(rt, b"put", place, &bytes, output)
 }
 
 // The report, lent the first bytes.
@@ -70,10 +78,10 @@ fn mark(bytes: &mut [u8]) {
 }
 
 // A place, and on the next line the bytes.
-fn tell(word: &[u8], place: usize, bytes: &[u8], output: &mut [u8]) {
+fn tell(rt: &impl Print, word: &[u8], place: usize, bytes: &[u8], output: &mut [u8]) -> Result<()> {
     let mut at = answers::put_bytes(output, 0, word);
     at = answers::put_number(output, at, place as u64);
     at = answers::put_bytes(output, at, b"\n");
     at = answers::put_bytes(output, at, bytes);
-    answers::send(output, at);
+    answers::send(rt, output, at)
 }

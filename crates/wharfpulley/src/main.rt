@@ -4,10 +4,13 @@
 
 #![tactic(auto)]
 
-ghost use Rattle.std.specs.Prelude.{◌≤◌, length};
+ghost use Rattle.std.specs.Prelude.{◌≤◌, length, IfOk};
 
-use libc::STDOUT_FILENO;
 use report::{MOST_OUTPUT, MOST_READ};
+use std::fs::File;
+use std::io;
+use std::io::{Eprint, Print, Read};
+use std::rt::Files;
 
 // How much was read of a file, and whether it could be read.
 #[derive(Clone, Copy)]
@@ -17,17 +20,22 @@ struct FileRead {
 }
 
 // Reads the two files and prints.
-fn main() {
+fn main(rt: HostRuntime) {
     let mut rules = [0u8; MOST_READ];
     let mut policy = [0u8; MOST_READ];
     let mut output = [0u8; MOST_OUTPUT];
-    run(&mut rules, &mut policy, &mut output);
+    run(&rt, &mut rules, &mut policy, &mut output);
 }
 
 // Reads the two files and prints, with a buffer for each and one for the output.
-fn run(rules: &mut [u8], policy: &mut [u8], output: &mut [u8]) {
-    let table = read_file(b"rules.txt", rules);
-    let asked = read_file(b"policy.txt", policy);
+fn run(
+    rt: &(impl Files + Print + Eprint + Alloc),
+    rules: &mut [u8],
+    policy: &mut [u8],
+    output: &mut [u8],
+) {
+    let table = read_file(rt, "rules.txt", rules);
+    let asked = read_file(rt, "policy.txt", policy);
     let table_end = table.length;
     let asked_end = asked.length;
     let length = report::report(
@@ -38,61 +46,72 @@ fn run(rules: &mut [u8], policy: &mut [u8], output: &mut [u8]) {
         output,
     );
     if length <= output.len() {
-        write(&output[..length]);
+        write(rt, &output[..length]);
     }
 }
 
 // Writes to standard output; if that fails, standard error has why.
-fn write(output: &[u8]) {
-    if io::write_all(STDOUT_FILENO, output) {
-        return;
+fn write(rt: &(impl Print + Eprint + Alloc), output: &[u8]) {
+    match rt.write_all(output) {
+        Ok(()) => {}
+        Err(error) => fail(rt, "standard output", error),
     }
-    os::fail(b"standard output");
 }
 
 // Reads a file, or as much of it as the buffer takes. If it cannot be read, standard error has why.
-fn read_file(name: &[u8], buffer: &mut [u8]) -> FileRead
+fn read_file(rt: &(impl Files + Eprint + Alloc), name: &str, buffer: &mut [u8]) -> FileRead
     ensures { result.length ≤ length buffer.new }
 {
-    let file = os::open_read(name);
-    if file < 0 {
-        os::fail(name);
-        return FileRead {
-            is_read: false,
-            length: 0,
-        };
+    match open_and_read(rt, name, buffer) {
+        Ok(length) => FileRead {
+            is_read: true,
+            length,
+        },
+        Err(error) => {
+            fail(rt, name, error);
+            FileRead {
+                is_read: false,
+                length: 0,
+            }
+        }
     }
-    let read = read_all(file, buffer);
-    if read.is_read {
-        libc::close(file);
-        return read;
-    }
-    os::fail(name);
-    libc::close(file);
-    read
 }
 
-// Reads what is left of an open file, or as much of it as the buffer takes.
-fn read_all(file: i32, buffer: &mut [u8]) -> FileRead
-    ensures { result.length ≤ length buffer.new }
+// Opens a file and reads it, or as much of it as the buffer takes.
+fn open_and_read(rt: &impl Files, name: &str, buffer: &mut [u8]) -> io::Result<usize>
+    ensures { IfOk result (λ end. end ≤ length buffer.new) }
+{
+    let mut file = File::open(rt, name)?;
+    read_all(&mut file, buffer)
+}
+
+// Reads what is left of an open file, or as much of it as the buffer takes, and gives how much that is.
+fn read_all(file: &mut impl Read, buffer: &mut [u8]) -> io::Result<usize>
+    ensures { IfOk result (λ end. end ≤ length buffer.new) }
 {
     let mut end: usize = 0;
     while end < buffer.len() {
-        let got = libc::read(file, &mut buffer[end..]);
-        if got < 0 {
-            return FileRead {
-                is_read: false,
-                length: 0,
-            };
-        }
-        let more = io::count(got, &buffer[end..]);
+        let more = file.read(&mut buffer[end..])?;
         if more == 0 {
             break;
         }
         end += more;
     }
-    FileRead {
-        is_read: true,
-        length: end,
+    Ok(end)
+}
+
+// Writes a line to standard error: what failed, a colon and the system's reason.
+fn fail(rt: &(impl Eprint + Alloc), what: &str, error: io::Error) {
+    let _ = match format!(in rt.alloc(); "{error}") {
+        Ok(text) => eprintln!(rt; "{what}: {}", reason(text.as_str())),
+        Err(_) => eprintln!(rt; "{what}: {error}"),
+    };
+}
+
+// The system's reason without its number, which an error's text adds.
+fn reason(text: &str) -> &str {
+    match text.split_once(" (os error ") {
+        Some((reason, _)) => reason,
+        None => text,
     }
 }

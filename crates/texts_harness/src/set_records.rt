@@ -4,6 +4,7 @@
 use crate::answers;
 use blocks::{Block, Span};
 use sets::{Action, MOST_DIRECTIVES, MOST_EXCEPTIONS, MOST_RULES, Policy, Refusal, Rules};
+use std::io::{Print, Result};
 
 // An answer about a set as far as it is made: how many bytes it has, and how many records past the count were not zeros.
 #[derive(Clone, Copy)]
@@ -88,10 +89,10 @@ impl Told {
     }
 
     // Ends the answer with how many records past the count were not zeros, and writes it.
-    pub(crate) fn send(self, output: &mut [u8]) {
+    pub(crate) fn send(self, rt: &impl Print, output: &mut [u8]) -> Result<()> {
         let mut length = answers::put_bytes(output, self.length, b" past");
         length = answers::put_number(output, length, self.past as u64);
-        answers::send(output, length);
+        answers::send(rt, output, length)
     }
 }
 
