@@ -1,9 +1,9 @@
 // A test harness that makes the library's calls reachable from outside. It reads requests from standard input, one a line,
 // makes the call that each asks for, and writes what the call gave to standard output. It ends where it finds no whole line, at
 // the end of the input or at a line of more than 1,024 bytes that its buffer cuts off; and after a million lines. A read or a write
-// that fails ends it too, with that error. Beside this folder, `stdin` has requests and `stdout` the answers of an independent
-// program to them, with which a check compares what is answered here; that program writes both anew, and they are not kept. The
-// functions are proved safe and ending for every input, not more.
+// that fails ends it too, with that error. An independent program writes requests and its answers to them, with which
+// `oracle/harnesses` compares what is answered here; they are not kept. The functions are proved safe and ending for every input,
+// not more.
 
 #![tactic(auto)]
 

@@ -1,9 +1,8 @@
 // A test harness that makes the calls that read texts and those that print reachable from outside. It reads requests from
 // standard input, makes the call that each asks for, and writes what the call gave to standard output. It ends at the first
-// request that it cannot read, as it does at the end of the input. A read or a write that fails ends it too, with that error. Beside
-// this folder, `stdin` has requests and `stdout` the answers of an independent program to them, with which a check compares what is
-// answered here; that program writes both anew, and they are not kept. The functions are proved safe and ending for every input,
-// not more.
+// request that it cannot read, as it does at the end of the input. A read or a write that fails ends it too, with that error. An
+// independent program writes requests and its answers to them, with which `oracle/harnesses` compares what is answered here; they
+// are not kept. The functions are proved safe and ending for every input, not more.
 
 #![tactic(auto)]
 
