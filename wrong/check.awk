@@ -142,21 +142,26 @@ function replace(p, file, old, new,    at, rest, line, place) {
 }
 /./ { said[programs]++ }
 
-# The place of an error: a theorem by its file and name, a function by its proof.
+# The place of an error in a file of proofs/: a function's proof, or a theorem by its file and name.
 function place_of(path, name) {
-    if (path ~ /\/Proof\.antt$/) { sub(/\/Proof\.antt$/, "", path); sub(/\+/, "", path); return path }
+    if (path ~ /\/(Invariants|Answers|Proof)\.antt$/) { sub(/\/[A-Za-z]*\.antt$/, "", path); sub(/\+/, "", path); return path }
     sub(/\.antt$/, "", path)
     return path " " name
 }
 
-# Reads the prover's log: sets `refused` for each place where a fact was refused.
-function read_log(file,    line, path, name, where, seen, at) {
-    where = file
-    sub(/\.log$/, "", where)
+# Whether a message says that a proof names what is not there.
+function lacks_name(line) {
+    gsub(/`[^`]*`/, "`", line)
+    return line ~ /: error: .*(is not in scope|has no field|has no `|is no name|can be named from here)/
+}
+
+# Reads what the prover said: sets `refused` for each place where it could not prove a fact.
+function read_log(file,    line, path, name, seen, at) {
     while ((getline line < file) > 0) {
         seen = 1
-        if (line ~ /that can be named from here/) fault("a proof names a need that is not there, so nothing is shown: " substr(line, 1, 200))
-        if (line ~ /^note: [^ ]*\/src\/[a-z_]*\.rt:[0-9]+:[0-9]+: it is not proved that /) {
+        if (line ~ /error\[[a-z-]+\]/) fault("the prover did not begin, so nothing is shown: " substr(line, 1, 200))
+        if (lacks_name(line)) fault("a proof names what is not there, so nothing is shown: " substr(line, 1, 200))
+        if (line ~ /^note: src\/[a-z_]*\.rt:[0-9]+:[0-9]+: it is not proved that /) {
             path = line
             sub(/^note: /, "", path)
             sub(/: it is not proved that .*/, "", path)
@@ -164,14 +169,13 @@ function read_log(file,    line, path, name, where, seen, at) {
             match(path, /:[0-9]+$/)
             at = substr(path, RSTART + 1) + 0
             path = substr(path, 1, RSTART - 1)
-            sub(/^.*\/src\//, "src/", path)
-            find_functions(contents(where path))
+            find_functions(path in text ? text[path] : contents(ENVIRON["HOME_DIR"] "/" path))
             if (at in owner) refused[owner[at]] = 1
         }
-        if (line !~ /^[^ ]*\.antt:[0-9]+:[0-9]+: error: `/ || line ~ /was not admitted/) continue
+        if (line !~ /^\.\/proofs\/[^ ]*\.antt:[0-9]+:[0-9]+: error: `/ || line ~ /was not admitted/) continue
         path = line
         sub(/:[0-9]+:[0-9]+: error: .*/, "", path)
-        sub(/^.*\/proofs\//, "proofs/", path)
+        sub(/^\.\//, "", path)
         name = line
         sub(/^[^`]*`/, "", name)
         sub(/`.*/, "", name)
@@ -179,6 +183,21 @@ function read_log(file,    line, path, name, where, seen, at) {
     }
     close(file)
     if (!seen) fault("no log of it was left: " file)
+}
+
+# Writes the files that the programs change below TO, and prints the words by which `rattle check` looks at their places alone.
+function apply(    file, p, place, words) {
+    for (file in text) {
+        printf "%s", text[file] > (ENVIRON["TO"] "/" file)
+        close(ENVIRON["TO"] "/" file)
+    }
+    for (p = 1; p <= programs; p++) {
+        if (falls[p] ~ / /) return ""
+        place = substr(falls[p], length("proofs/") + 1)
+        gsub(/\//, "::", place)
+        words = words " --only " place
+    }
+    return words
 }
 
 END {
@@ -197,5 +216,6 @@ END {
         for (p = 1; p <= programs; p++) if (!(falls[p] in refused)) fault(name[p] ": no fact was refused at " falls[p])
     }
     if (faults) exit 1
-    print programs
+    if (ENVIRON["MODE"] == "apply") print apply()
+    else print programs
 }
