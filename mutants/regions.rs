@@ -115,12 +115,15 @@ fn fix_tokens(region: &mut Region) {
     let mut fixed = vec![false; tokens.len()];
     let mut open: Vec<&str> = Vec::new();
     let mut until_equals = false;
+    let mut until_in = false;
     let mut in_length = 0;
     for i in 0..tokens.len() {
         let text = tokens[i].text.as_str();
         match text {
             "let" => until_equals = true,
             "=" => until_equals = false,
+            "for" => until_in = true,
+            "in" => until_in = false,
             "(" | "[" | "{" => open.push(text),
             ")" | "]" | "}" => {
                 if open.len() == in_length {
@@ -136,7 +139,10 @@ fn fix_tokens(region: &mut Region) {
             .iter()
             .take_while(|t| t.line == tokens[i].line)
             .any(|t| t.text == "=>");
-        fixed[i] = until_equals || in_length > 0 || cast || pattern;
+        fixed[i] = until_equals || until_in || in_length > 0 || cast || pattern;
+        if until_in && is_name(text) {
+            region.bound.push(text.to_string());
+        }
         if until_equals && is_bound(tokens, i) {
             region.bound.push(text.to_string());
             if tokens.get(i + 1).is_some_and(|t| t.text == ":") {
