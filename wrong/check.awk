@@ -159,7 +159,7 @@ function lacks_name(line) {
 function read_log(file,    line, path, name, seen, at) {
     while ((getline line < file) > 0) {
         seen = 1
-        if (line ~ /error\[[a-z-]+\]/) fault("the prover did not begin, so nothing is shown: " substr(line, 1, 200))
+        if (line ~ /error\[[a-z-]+\]/ || (line ~ /^rattle: / && line !~ /^rattle: no verdict/)) fault("the prover did not begin, so nothing is shown: " substr(line, 1, 200))
         if (lacks_name(line)) fault("a proof names what is not there, so nothing is shown: " substr(line, 1, 200))
         if (line ~ /^note: src\/[a-z_]*\.rt:[0-9]+:[0-9]+: it is not proved that /) {
             path = line
