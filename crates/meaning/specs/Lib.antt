@@ -8,13 +8,14 @@
 -- "for all x", `(x : A) × B` "there is an x with B", `×` "and", `⊎` "or", `¬` "not", `≡` "equals"; a `data` relation holds just where
 -- one of its cases says so. Terms: `f x y` is f at x and y, `λ x. e` the function that takes x to e, `r.field` a field of a record,
 -- `.0` and `.1` the parts of a pair. What stands in braces, `Type`, and the marks `abbrev`, `unfoldable` and `pub` are for the prover.
--- In the other crates: `a_b` is the name a_b, `replicate n x` is a list of n times x, and a contract in `src/` stands between ⌜ and ⌝,
--- where r is the answer. There `now s` are the bytes of a lent slice s, `s.entry` is what it is when the call begins, and `.ptr` is its
--- address: a block of memory, and the place in it. `code "x"` is the number of a character. `a - b` is 0 where b is larger, `%` is the
--- remainder, `/` the quotient without it, `^` a power, `min` the smaller, and `10_617` is 10,617. `s.exit` is what a lent slice is when
--- the call ends; `set xs i x` is xs with x for element i, `sets xs i ys` with the elements of ys from i on. `bit_and`, `bit_or` and `bit_xor`
--- go by binary digits: those that both numbers have set, that one has, that just one has; `count_trailing_zeros 64 n` counts the digits that are
--- 0 below the lowest that is set, of 64. What stands after `module _` belongs to every definition below it.
+-- In the other crates: `replicate n x` is a list of n times x. A contract in `src/` stands in the braces behind `requires`, which is asked
+-- of a caller, and `ensures`, which is promised; two of a kind have a name each, and `result` is the answer. There `s.now` are the bytes of a
+-- slice s that is lent to be read. Of one that is lent to be changed, `s.old` are those when the call begins, and `s.new` those when it
+-- ends. `s.entry` is a lent slice as it was passed, and `.ref_ptr` its address: a block of memory, and the place in it. `code "x"` is the
+-- number of a character. `a - b` is 0 where b is larger, `%` is the remainder, `/` the quotient without it, `^` a power, `min` the smaller, and
+-- `10_617` is 10,617. `set xs i x` is xs with x for element i, `sets xs i ys` with the elements of ys from i on. `bit_and`, `bit_or` and
+-- `bit_xor` go by binary digits: those that both numbers have set, that one has, that just one has; `count_trailing_zeros 64 n` counts the
+-- digits that are 0 below the lowest that is set, of 64. What stands after `module _` belongs to every definition below it.
 pub mod Fields
 pub mod Blocks
 pub mod Records
