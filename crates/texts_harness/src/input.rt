@@ -1,6 +1,6 @@
 // The input as a stream: a buffer, and which of its bytes are read from the input but not answered yet.
 
-ghost use Rattle.std.specs.Prelude.{◌+◌, ◌≤◌, length, IfOk};
+ghost use Rattle.std.specs.Prelude.{◌≡◌, ◌+◌, ◌≤◌, length, IfOk, OnErr};
 
 use crate::requests::MOST_BYTES;
 use std::io::{Input, Read, Result};
@@ -14,10 +14,12 @@ pub(crate) struct Unread {
 
 impl Unread {
     // Sees to it that the buffer has a whole request, if the input has one: where less than the longest is left, that moves to
-    // the start, and the room behind it is filled from the input.
+    // the start, and the room behind it is filled from the input. The one error is that of a read; other bytes may stand in the
+    // buffer then.
     pub(crate) fn refill(self, rt: &impl Input, buffer: &mut [u8]) -> Result<Unread>
         requires { (self.start ≤ self.end) × (self.end ≤ length buffer.old) }
-        ensures { IfOk result (λ unread. (unread.start ≤ unread.end) × (unread.end ≤ length buffer.new)) }
+        ensures ok { IfOk result (λ unread. (unread.start ≤ unread.end) × (unread.end ≤ length buffer.new)) }
+        ensures err { OnErr result (length buffer.new ≡ length buffer.old) }
     {
         let left = self.end - self.start;
         if MOST_BYTES <= left {
@@ -32,9 +34,11 @@ impl Unread {
     }
 }
 
-// Reads until the buffer is full or the input ends, and gives how many bytes were read.
+// Reads until the buffer is full or the input ends, and gives how many bytes were read. The one error is that of a read; other bytes
+// may stand in the buffer then.
 fn read_full(reader: &mut impl Read, buffer: &mut [u8]) -> Result<usize>
-    ensures { IfOk result (λ end. end ≤ length buffer.new) }
+    ensures ok { IfOk result (λ end. end ≤ length buffer.new) }
+    ensures err { OnErr result (length buffer.new ≡ length buffer.old) }
 {
     let mut end: usize = 0;
     while end < buffer.len() {

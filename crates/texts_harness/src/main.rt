@@ -15,7 +15,7 @@ mod replies;
 mod requests;
 mod set_records;
 
-ghost use Rattle.std.specs.Prelude.{◌≤◌, length, IfOk};
+ghost use Rattle.std.specs.Prelude.{◌≡◌, ◌≤◌, length, IfOk, OnErr};
 
 use input::Unread;
 use requests::{MOST_PAYLOAD, Request};
@@ -50,9 +50,11 @@ fn serve(rt: &(impl Input + Print), input: &mut [u8], output: &mut [u8]) -> Resu
     Ok(())
 }
 
-// Answers the request that the input starts with, and gives how many bytes it has: 0 if there is no whole request.
+// Answers the request that the input starts with, and gives how many bytes it has: 0 if there is no whole request. The one error is that
+// of a write; other bytes may stand in the buffer for an answer then, as they do after an answer.
 fn answer(rt: &impl Print, input: &[u8], output: &mut [u8]) -> Result<usize>
-    ensures { IfOk result (λ taken. taken ≤ length input.now) }
+    ensures ok { IfOk result (λ taken. taken ≤ length input.now) }
+    ensures err { OnErr result (length output.new ≡ length output.old) }
 {
     let request = Request::read(input);
     let start = request.header;

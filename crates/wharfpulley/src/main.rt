@@ -4,7 +4,7 @@
 
 #![tactic(auto)]
 
-ghost use Rattle.std.specs.Prelude.{◌≤◌, length, IfOk};
+ghost use Rattle.std.specs.Prelude.{◌≡◌, ◌≤◌, length, IfOk, OnErr};
 
 use report::{MOST_OUTPUT, MOST_READ};
 use std::fs::File;
@@ -77,17 +77,21 @@ fn read_file(rt: &(impl Files + Eprint + Alloc), name: &str, buffer: &mut [u8]) 
     }
 }
 
-// Opens a file and reads it, or as much of it as the buffer takes.
+// Opens a file and reads it, or as much of it as the buffer takes. The one error is that of opening or of a read; other bytes may stand
+// in the buffer then.
 fn open_and_read(rt: &impl Files, name: &str, buffer: &mut [u8]) -> io::Result<usize>
-    ensures { IfOk result (λ end. end ≤ length buffer.new) }
+    ensures ok { IfOk result (λ end. end ≤ length buffer.new) }
+    ensures err { OnErr result (length buffer.new ≡ length buffer.old) }
 {
     let mut file = File::open(rt, name)?;
     read_all(&mut file, buffer)
 }
 
-// Reads what is left of an open file, or as much of it as the buffer takes, and gives how much that is.
+// Reads what is left of an open file, or as much of it as the buffer takes, and gives how much that is. The one error is that of a read;
+// other bytes may stand in the buffer then.
 fn read_all(file: &mut impl Read, buffer: &mut [u8]) -> io::Result<usize>
-    ensures { IfOk result (λ end. end ≤ length buffer.new) }
+    ensures ok { IfOk result (λ end. end ≤ length buffer.new) }
+    ensures err { OnErr result (length buffer.new ≡ length buffer.old) }
 {
     let mut end: usize = 0;
     while end < buffer.len() {

@@ -6,9 +6,6 @@ use Rattle.addresses.specs.Addresses.{prefix_of, mask_of, masked_by}
 use Rattle.addresses.proofs.Masks.{ones_in_lem, mask_yes, mask_no}
 use Rattle.addresses.proofs.masked.Goals as goal
 
--- NOT ASKED NOW: overflow-add-if1
---  omega (arith, ones-le 32 c.args.mask c.ranges.mask.fits, trailing_le 32 c.args.mask)
-
 pub returns-then-length-mask-eq32 : goal.returns-then-length-mask-eq32
 unfolding masked_by
 returns-then-length-mask-eq32 c =
