@@ -3,7 +3,7 @@
 //! counts) and goes over the strips as `judge`, `lister` and `cells` do. It prints the
 //! places of the four fields; then of the verdict the cells and the calls of
 //! `best_below`; then of the listing the cells, the comparisons (calls of `alike`), the
-//! calls of `list_below` and the blocks. A cell is a label worked out (`label_number`).
+//! calls of `list_below` and the blocks. A cell is a label worked out (`Chart::label`).
 
 use std::io::Read;
 

@@ -15,15 +15,35 @@ function line_of(text, at) {
     return gsub(/\n/, "&", text) + 1
 }
 
-# For each line of a source file that belongs to a function: `owner` is the place of the function's proof, and `body` tells whether the
-# line stands behind the contract.
-function find_functions(text,    lines, count, i, line, type, name, inside, opened, indent) {
+# A type as the prover spells it in a name: each word with a capital, an array after the word `Array`, lifetimes left out.
+function spelled(type,    words, count, i, name) {
+    gsub(/'[a-z]+/, "", type)
+    gsub(/\[/, " array ", type)
+    gsub(/[^A-Za-z0-9_]+/, " ", type)
+    count = split(type, words, " ")
+    for (i = 1; i <= count; i++) name = name toupper(substr(words[i], 1, 1)) substr(words[i], 2)
+    return name
+}
+
+# The name that an `impl` block has in the places of proofs: its type, and the trait behind it if it is one's.
+function impl_name(line,    at) {
+    sub(/^impl(<[^>]*>)? /, "", line)
+    sub(/ [{]$/, "", line)
+    at = index(line, " for ")
+    if (at) return spelled(substr(line, at + 5)) spelled(substr(line, 1, at - 1))
+    sub(/[^A-Za-z0-9_].*/, "", line)
+    return line
+}
+
+# For each line of a source file that belongs to a function, its attributes among them: `owner` is the place of the function's proof,
+# and `body` tells whether the line stands behind the contract.
+function find_functions(text,    lines, count, i, line, type, name, inside, opened, indent, above) {
     count = split(text, lines, "\n")
     split("", owner)
     split("", body)
     for (i = 1; i <= count; i++) {
         line = lines[i]
-        if (line ~ /^impl /) { type = line; sub(/^impl /, "", type); sub(/[^A-Za-z0-9_].*/, "", type) }
+        if (line ~ /^impl[ <]/) type = impl_name(line)
         if (line ~ /^}/) type = ""
         if (line ~ /^(    )?(pub(\([a-z]+\))? )?fn [a-z0-9_]+/) {
             match(line, /^ */)
@@ -34,6 +54,7 @@ function find_functions(text,    lines, count, i, line, type, name, inside, open
             name = "proofs/" (indent == "" ? "" : type "/") name
             inside = 1
             opened = 0
+            for (above = i - 1; above > 0 && lines[above] ~ /^ *#\[/; above--) { owner[above] = name; body[above] = 0 }
         }
         if (!inside) continue
         owner[i] = name
@@ -49,7 +70,7 @@ function find_constants(text,    lines, count, i, line, type, name, inside) {
     split("", constant)
     for (i = 1; i <= count; i++) {
         line = lines[i]
-        if (line ~ /^impl /) { type = line; sub(/^impl /, "", type); sub(/[^A-Za-z0-9_].*/, "", type) }
+        if (line ~ /^impl[ <]/) type = impl_name(line)
         if (line ~ /^}/) type = ""
         if (line ~ /^(    )?(pub(\([a-z]+\))? )?const [A-Z0-9_]+:/) {
             name = line

@@ -71,7 +71,8 @@ run_counts (suc k) (suc t) h =
     let p : (2 ^ suc k - 2 ^ suc t) % 2 ≡ 0 = omega (arith, pow-suc 2 k, pow-suc 2 t) in
     let q : (2 ^ suc k - 2 ^ suc t) / 2 ≡ 2 ^ k - 2 ^ t = omega (arith, pow-suc 2 k, pow-suc 2 t) in
     let r = run_counts k t (le_of_suc-le-suc h) in
-    let o : ones (2 ^ suc k - 2 ^ suc t) ≡ ones (2 ^ k - 2 ^ t) = ones_step (2 ^ suc k - 2 ^ suc t) ∙ ap (λ (x : ℕ). x + ones ((2 ^ suc k - 2 ^ suc t) / 2)) p ∙ omega arith ∙ ap ones q in
+    let o : ones (2 ^ suc k - 2 ^ suc t) ≡ ones (2 ^ k - 2 ^ t) =
+    ones_step (2 ^ suc k - 2 ^ suc t) ∙ ap (λ (x : ℕ). x + ones ((2 ^ suc k - 2 ^ suc t) / 2)) p ∙ omega arith ∙ ap ones q in
     subst (λ (x : ℕ). ones (2 ^ suc k - 2 ^ suc t) + under x (count_trailing_zeros k ((2 ^ suc k - 2 ^ suc t) / 2)) ≡ suc k) (sym p)
     (omega (arith, o, r, ap (count_trailing_zeros k) q))
 

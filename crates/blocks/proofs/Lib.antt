@@ -1,4 +1,3 @@
 pub mod Widest
-mod Lists
 pub mod OneAnswer
 pub mod Named

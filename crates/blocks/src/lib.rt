@@ -5,12 +5,12 @@
 
 #![tactic(auto)]
 
-ghost use Rattle.std.specs.Prelude.{◌&&◌, ◌≡◌, min, max, leb};
+ghost use Rattle.std.specs.Prelude.{◌&&◌, ◌≡◌, leb};
 ghost use Rattle.meaning.specs.Buffers.{bounds};
-ghost use Rattle.meaning.specs.Blocks.{within, holds, inside, widest, shares, narrow_span};
+ghost use Rattle.meaning.specs.Blocks.{within, holds, inside, widest};
 ghost use Rattle.meaning.specs.Fields.{fields, lowest};
 ghost use Rattle.meaning.specs.Form.{block_in_form, packet_in_form};
-ghost use Rattle.blocks.specs.Inner.{rising};
+ghost use Rattle.blocks.specs.Inner.{rising, SharedIn, narrowed_or};
 ghost use Rattle.blocks.specs.Vocabulary.{span_of, block_of, packet_of, NarrowedIn};
 
 // The fields of a packet.
@@ -20,14 +20,14 @@ pub const FIELDS: usize = 4;
 pub const BOUNDS: usize = 2 * FIELDS;
 
 // The numbers from low to high, both included; none if low is above high.
-#[derive(Clone, Copy)]
+#[derive(Clone, Copy, PartialEq, Eq)]
 pub struct Span {
     pub low: u32,
     pub high: u32,
 }
 
 // A span for each field.
-#[derive(Clone, Copy)]
+#[derive(Clone, Copy, PartialEq, Eq)]
 pub struct Block {
     pub source: Span,
     pub destination: Span,
@@ -36,7 +36,7 @@ pub struct Block {
 }
 
 // A number for each field.
-#[derive(Clone, Copy)]
+#[derive(Clone, Copy, PartialEq, Eq)]
 pub struct Packet {
     pub source: u32,
     pub destination: u32,
@@ -45,7 +45,8 @@ pub struct Packet {
 }
 
 // What narrowing hands back: the block, and whether numbers were shared. Where none were, the block is as it was.
-#[derive(Clone, Copy)]
+// No `Option`: `NarrowedIn` promises the block in both cases, so that one narrowing may follow another.
+#[derive(Clone, Copy, PartialEq, Eq)]
 pub struct Narrowed {
     pub block: Block,
     pub shared: bool,
@@ -71,16 +72,7 @@ impl Packet {
     pub fn of_numbers(numbers: [u32; FIELDS]) -> Packet
         ensures { packet_of result ≡ numbers }
     {
-        let source = numbers[0];
-        let destination = numbers[1];
-        let protocol = numbers[2];
-        let port = numbers[3];
-        Packet {
-            source,
-            destination,
-            protocol,
-            port,
-        }
+        Packet::from(numbers)
     }
 
     // Whether the packet is in form: no number past its field's largest.
@@ -91,6 +83,78 @@ impl Packet {
     }
 }
 
+impl From<[u32; FIELDS]> for Packet {
+    ghost from_gives = { λ numbers packet. packet_of packet ≡ numbers };
+
+    // The packet with these numbers, in the order of the fields.
+    fn from(numbers: [u32; FIELDS]) -> Packet {
+        let [source, destination, protocol, port] = numbers;
+        Packet {
+            source,
+            destination,
+            protocol,
+            port,
+        }
+    }
+}
+
+impl From<[u32; BOUNDS]> for Block {
+    ghost from_gives = { λ numbers block. bounds (block_of block) ≡ numbers };
+
+    // The block with these bounds, a low and a high one for each field.
+    #[tactic(auto, unfolding(meaning::specs::Buffers::bounds))]
+    fn from(numbers: [u32; BOUNDS]) -> Block {
+        let [
+            source_low,
+            source_high,
+            destination_low,
+            destination_high,
+            protocol_low,
+            protocol_high,
+            port_low,
+            port_high,
+        ] = numbers;
+        Block {
+            source: Span {
+                low: source_low,
+                high: source_high,
+            },
+            destination: Span {
+                low: destination_low,
+                high: destination_high,
+            },
+            protocol: Span {
+                low: protocol_low,
+                high: protocol_high,
+            },
+            port: Span {
+                low: port_low,
+                high: port_high,
+            },
+        }
+    }
+}
+
+impl From<Block> for [u32; BOUNDS] {
+    ghost from_gives = { λ block numbers. numbers ≡ bounds (block_of block) };
+
+    // The low and the high bound of each field, in the order of the fields.
+    #[tactic(auto, unfolding(meaning::specs::Buffers::bounds))]
+    fn from(block: Block) -> [u32; BOUNDS] {
+        [
+            block.source.low,
+            block.source.high,
+            block.destination.low,
+            block.destination.high,
+            block.protocol.low,
+            block.protocol.high,
+            block.port.low,
+            block.port.high,
+        ]
+    }
+}
+
+#[tactic(auto, unfolding(meaning::specs::Blocks::narrow, meaning::specs::Blocks::narrows, meaning::specs::Blocks::narrow_span))]
 impl Block {
     // The widest block, open in all four fields.
     pub const WIDEST: Block = Block {
@@ -120,83 +184,43 @@ impl Block {
     pub fn bounds(self) -> [u32; BOUNDS]
         ensures { result ≡ bounds (block_of self) }
     {
-        [
-            self.source.low,
-            self.source.high,
-            self.destination.low,
-            self.destination.high,
-            self.protocol.low,
-            self.protocol.high,
-            self.port.low,
-            self.port.high,
-        ]
+        self.into()
     }
 
     // The block with these bounds, a low and a high one for each field.
     pub fn of_bounds(numbers: [u32; BOUNDS]) -> Block
         ensures { bounds (block_of result) ≡ numbers }
     {
-        let source = Span {
-            low: numbers[0],
-            high: numbers[1],
-        };
-        let destination = Span {
-            low: numbers[2],
-            high: numbers[3],
-        };
-        let protocol = Span {
-            low: numbers[4],
-            high: numbers[5],
-        };
-        let port = Span {
-            low: numbers[6],
-            high: numbers[7],
-        };
-        Block {
-            source,
-            destination,
-            protocol,
-            port,
-        }
+        Block::from(numbers)
     }
 
     // Whether the block holds the packet: each span its number.
+    #[tactic(auto, unfolding(meaning::specs::Blocks::holds))]
     pub fn holds(self, packet: Packet) -> bool
         ensures { result ≡ holds (block_of self) (packet_of packet) }
     {
-        if self.source.holds(packet.source) {
-            if self.destination.holds(packet.destination) {
-                if self.protocol.holds(packet.protocol) {
-                    return self.port.holds(packet.port);
-                }
-            }
-        }
-        false
+        self.source.holds(packet.source)
+            && self.destination.holds(packet.destination)
+            && self.protocol.holds(packet.protocol)
+            && self.port.holds(packet.port)
     }
 
     // Whether the block lies inside the other, bound by bound.
+    #[tactic(auto, unfolding(meaning::specs::Blocks::inside))]
     pub fn inside(self, other: Block) -> bool
         ensures { result ≡ inside (block_of self) (block_of other) }
     {
-        if self.source.inside(other.source) {
-            if self.destination.inside(other.destination) {
-                if self.protocol.inside(other.protocol) {
-                    return self.port.inside(other.port);
-                }
-            }
-        }
-        false
+        self.source.inside(other.source)
+            && self.destination.inside(other.destination)
+            && self.protocol.inside(other.protocol)
+            && self.port.inside(other.port)
     }
 
     // Whether the block is in form: no low above its high, no number past its field's largest.
     pub fn in_form(self) -> bool
         ensures { result ≡ block_in_form fields (block_of self) }
     {
-        if self.rising() {
-            self.inside(Block::WIDEST)
-        } else {
-            false
-        }
+        self.rising() && self.inside(Block::WIDEST)
     }
 
     // The block with its sources narrowed to those that it shares with the bounds; the other fields stay. One narrowing
@@ -204,133 +228,92 @@ impl Block {
     pub fn narrow_source(self, bounds: Span) -> Narrowed
         ensures { NarrowedIn 0 bounds self result }
     {
-        let narrowed = self.source.narrow(bounds);
-        let span = narrowed.span;
-        let mut block = self;
-        block.source = span;
-        Narrowed {
-            block,
-            shared: narrowed.shared,
-        }
+        let shared = self.source.shared(bounds);
+        self.narrowed(shared.map(|span| Block {
+            source: span,
+            ..self
+        }))
     }
 
     // The same for its destinations.
     pub fn narrow_destination(self, bounds: Span) -> Narrowed
         ensures { NarrowedIn 1 bounds self result }
     {
-        let narrowed = self.destination.narrow(bounds);
-        let span = narrowed.span;
-        let mut block = self;
-        block.destination = span;
-        Narrowed {
-            block,
-            shared: narrowed.shared,
-        }
+        let shared = self.destination.shared(bounds);
+        self.narrowed(shared.map(|span| Block {
+            destination: span,
+            ..self
+        }))
     }
 
     // The same for its protocols.
     pub fn narrow_protocol(self, bounds: Span) -> Narrowed
         ensures { NarrowedIn 2 bounds self result }
     {
-        let narrowed = self.protocol.narrow(bounds);
-        let span = narrowed.span;
-        let mut block = self;
-        block.protocol = span;
-        Narrowed {
-            block,
-            shared: narrowed.shared,
-        }
+        let shared = self.protocol.shared(bounds);
+        self.narrowed(shared.map(|span| Block {
+            protocol: span,
+            ..self
+        }))
     }
 
     // The same for its ports.
     pub fn narrow_port(self, bounds: Span) -> Narrowed
         ensures { NarrowedIn 3 bounds self result }
     {
-        let narrowed = self.port.narrow(bounds);
-        let span = narrowed.span;
-        let mut block = self;
-        block.port = span;
+        let shared = self.port.shared(bounds);
+        self.narrowed(shared.map(|span| Block { port: span, ..self }))
+    }
+
+    // What narrowing hands back, of the block with the numbers shared, if there are any.
+    fn narrowed(self, shared: Option<Block>) -> Narrowed
+        ensures { result ≡ narrowed_or self shared }
+    {
         Narrowed {
-            block,
-            shared: narrowed.shared,
+            block: shared.unwrap_or(self),
+            shared: shared.is_some(),
         }
     }
 
     // Whether no low is above its high.
+    #[tactic(auto, unfolding(crate::specs::Inner::rising))]
     fn rising(self) -> bool
         ensures { result ≡ rising (block_of self) }
     {
-        if self.source.low <= self.source.high {
-            if self.destination.low <= self.destination.high {
-                if self.protocol.low <= self.protocol.high {
-                    return self.port.low <= self.port.high;
-                }
-            }
-        }
-        false
+        self.source.low <= self.source.high
+            && self.destination.low <= self.destination.high
+            && self.protocol.low <= self.protocol.high
+            && self.port.low <= self.port.high
     }
-}
-
-// A span narrowed, and whether numbers were shared.
-#[derive(Clone, Copy)]
-struct NarrowedSpan {
-    span: Span,
-    shared: bool,
 }
 
 impl Span {
     // Whether the span holds the number.
+    #[tactic(auto, unfolding(meaning::specs::Blocks::within))]
     fn holds(self, number: u32) -> bool
         ensures { result ≡ within (span_of self) number }
     {
-        if self.low <= number {
-            number <= self.high
-        } else {
-            false
-        }
+        self.low <= number && number <= self.high
     }
 
     // Whether both bounds lie between the other's.
     fn inside(self, other: Span) -> bool
         ensures { result ≡ (leb other.low self.low && leb self.high other.high) }
     {
-        if other.low <= self.low {
-            self.high <= other.high
-        } else {
-            false
-        }
+        other.low <= self.low && self.high <= other.high
     }
 
-    // The numbers shared with the bounds; where there are none, the span as it was.
-    fn narrow(self, bounds: Span) -> NarrowedSpan
-        ensures { (span_of result.span ≡ narrow_span (span_of self) (span_of bounds)) × (result.shared ≡ shares (span_of self) (span_of bounds)) }
+    // The numbers shared with the bounds, if there are any.
+    #[tactic(auto, unfolding(meaning::specs::Blocks::shares))]
+    fn shared(self, bounds: Span) -> Option<Span>
+        ensures { SharedIn (span_of self) (span_of bounds) result }
     {
-        let low = higher(self.low, bounds.low);
-        let high = lower(self.high, bounds.high);
+        let low = self.low.max(bounds.low);
+        let high = self.high.min(bounds.high);
         if low <= high {
-            NarrowedSpan {
-                span: Span { low, high },
-                shared: true,
-            }
+            Some(Span { low, high })
         } else {
-            NarrowedSpan {
-                span: self,
-                shared: false,
-            }
+            None
         }
     }
-}
-
-// The higher of two numbers.
-fn higher(a: u32, b: u32) -> u32
-    ensures { result ≡ max a b }
-{
-    if a < b { b } else { a }
-}
-
-// The lower of two numbers.
-fn lower(a: u32, b: u32) -> u32
-    ensures { result ≡ min a b }
-{
-    if a < b { a } else { b }
 }

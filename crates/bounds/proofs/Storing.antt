@@ -1,6 +1,6 @@
 -- Runs of stores into an array, one behind the other: numbers, and the bounds of blocks. Assumes nothing.
 use mathlib.Core.Path.{◌≡◌, refl, sym, ap, ◌∙◌}
-use mathlib.Core.List.{List, [], ◌∷◌, ◌++◌, append_assoc}
+use mathlib.Core.List.{List, [], ◌∷◌, ◌++◌, append_assoc, map}
 use Prim.Native.Nat.{ℕ, ◌+◌, ◌*◌, ◌≤◌}
 use native.Mathlib.Omega.{arith}
 use lib.ListN.{length, take, drop, length-append}
@@ -9,8 +9,8 @@ use Rattle.meaning.specs.Blocks.{Block}
 use Rattle.meaning.specs.Buffers.{bounds}
 use Rattle.meaning.specs.Sizes.{block_bounds}
 use Rattle.meaning.proofs.BufferStores.{sets_append}
-use Rattle.bounds.specs.Spans.{numbers_of}
-use Rattle.bounds.specs.Spans.{InFront}
+use Rattle.bounds.specs.Spans.{numbers_of, InFront}
+use Rattle.bounds.proofs.Within.{made_within}
 
 -- a run of stores from the front on stands in front of the array
 pub sets_front : (xs l : List ℕ) → length xs ≤ length l → take (length xs) (sets l 0 xs) ≡ xs
@@ -51,3 +51,9 @@ blocks_in_front l rs ds es r d e long_rs long_ds long_es room one two three is_o
     let all : three ≡ sets l 0 (numbers_of (rs ++ ds ++ es)) =
     is_three ∙ ap (λ (x : List ℕ). sets x (block_bounds * (r + d)) (numbers_of es)) both ∙ stored_behind l 0 (block_bounds * (r + d)) (rs ++ ds) es (omega arith) in
     ap (take (length (numbers_of (rs ++ ds ++ es)))) all ∙ sets_front (numbers_of (rs ++ ds ++ es)) l (omega arith)
+
+-- the blocks of records, stored: what is made of the records within their count
+pub put_within : {A B : Type 0} (f : A → B) (g : B → Block) (records : List A) (count : ℕ) (l : List ℕ) (at : ℕ) {stored : List ℕ}
+    → stored ≡ sets l at (numbers_of (map (λ (a : A). g (f a)) (take count records)))
+    → stored ≡ sets l at (numbers_of (map g (take count (map f records))))
+put_within f g records count l at put = put ∙ ap (λ (bs : List Block). sets l at (numbers_of bs)) (sym (made_within f g records count))

@@ -1,5 +1,5 @@
 -- What is made of the records of an array within a count: how many there are, one more of them, and what holds of all. Assumes nothing.
-use mathlib.Core.Path.{◌≡◌, ap, ◌∙◌}
+use mathlib.Core.Path.{◌≡◌, refl, ap, ◌∙◌}
 use mathlib.Core.List.{List, [], ◌∷◌, ◌++◌, map}
 use Prim.Native.Nat.{ℕ, zero, suc, ◌+◌, ◌≤◌, ◌<◌}
 use native.Mathlib.Numerals.{add-one}
@@ -38,3 +38,15 @@ module _ {A B C : Type 0} (f : A → B) (g : B → C) where
         rw (add-one i)
         (take-suc (made f g records count) i (g (f d)) (omega (arith, length_made))
         ∙ ap (λ (c : C). take i (made f g records count) ++ (c ∷ [])) last)
+
+-- the same of the records within the count themselves
+pub made_within : {A B C : Type 0} (f : A → B) (g : B → C) (records : List A) (count : ℕ)
+    → made f g records count ≡ map (λ (a : A). g (f a)) (take count records)
+made_within f g records zero = refl
+made_within f g [] (suc count) = refl
+made_within {C} f g (a ∷ records) (suc count) = ap (λ (cs : List C). g (f a) ∷ cs) (made_within f g records count)
+
+-- what holds of whatever f makes holds of what it makes of all records
+pub every_mapped : {A C : Type 0} (f : A → C) {P : C → Type 0} → ((a : A) → P (f a)) → (records : List A) → Every P (map f records)
+every_mapped f holds [] = every_none
+every_mapped f holds (a ∷ records) = every_more (holds a) (every_mapped f holds records)

@@ -1,3 +1,4 @@
 -- How to read the notation stands at the top of crates/meaning/specs/Lib.antt.
 pub mod SetBlocks
 pub mod Spans
+pub mod Inner

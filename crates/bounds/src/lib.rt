@@ -4,17 +4,36 @@
 
 #![tactic(auto)]
 
-ghost use Rattle.std.specs.Prelude.{◌≡◌, ◌+◌, ◌*◌, ◌≤◌, length};
+ghost use Rattle.std.specs.Prelude.{◌≡◌, ◌+◌, ◌*◌, ◌≤◌, length, map};
 ghost use Rattle.std.proofs.lemmas.List.Edits.{sets};
 ghost use Rattle.meaning.specs.Buffers.{bounds};
-ghost use Rattle.meaning.specs.Form.{most_rules, most_directives, most_exceptions};
-ghost use Rattle.meaning.specs.Sizes.{block_bounds, most_blocks, all_bounds};
+ghost use Rattle.meaning.specs.Sizes.{block_bounds, all_bounds};
 ghost use Rattle.blocks.specs.Vocabulary.{block_of};
-ghost use Rattle.bounds.specs.SetBlocks.{Limited, rule_blocks, directive_blocks, exception_blocks, all_blocks, BlocksCounted};
-ghost use Rattle.bounds.specs.Spans.{numbers_of, InFront};
+ghost use Rattle.layout.specs.Passed.{Computes};
+ghost use Rattle.bounds.specs.Inner.{put_behind};
+ghost use Rattle.bounds.specs.SetBlocks.{Limited, CountsLimited, all_blocks, BlocksCounted};
+ghost use Rattle.bounds.specs.Spans.{InFront};
 
 use blocks::{BOUNDS, Block};
 use sets::{Policy, Rules};
+
+// How many blocks there are: those of the rules, of the directives and of the exceptions.
+#[derive(Clone, Copy)]
+pub struct BlockCounts {
+    pub rules: usize,
+    pub directives: usize,
+    pub exceptions: usize,
+}
+
+impl BlockCounts {
+    // All of them.
+    pub fn all(self) -> usize
+        requires { CountsLimited self }
+        ensures { result ≡ self.rules + self.directives + self.exceptions }
+    {
+        self.rules + self.directives + self.exceptions
+    }
+}
 
 // Puts the bounds of all blocks side by side: those of the rules, of the directives and of the exceptions.
 pub fn put_blocks(rules: Rules, policy: Policy, numbers: &mut [u32])
@@ -23,47 +42,29 @@ pub fn put_blocks(rules: Rules, policy: Policy, numbers: &mut [u32])
     ensures blocks_counted { BlocksCounted rules policy }
     ensures in_front { InFront (all_blocks rules policy) numbers.new }
 {
-    put_rules(rules, numbers);
-    put_directives(policy, rules.count, numbers);
-    put_exceptions(policy, rules.count + policy.directive_count, numbers);
+    put_records(&rules.records[..rules.count], |rule| rule.block, 0, numbers);
+    put_records(
+        &policy.directives[..policy.directive_count],
+        |directive| directive.block,
+        rules.count,
+        numbers,
+    );
+    put_records(
+        &policy.exceptions[..policy.exception_count],
+        |exception| exception.block,
+        rules.count + policy.directive_count,
+        numbers,
+    );
 }
 
-// Puts the bounds of the rules' blocks at the front.
-fn put_rules(rules: Rules, numbers: &mut [u32])
-    requires { (rules.count ≤ most_rules) × (length numbers.old ≡ all_bounds) }
-    ensures { numbers.new ≡ sets numbers.old 0 (numbers_of (rule_blocks rules)) }
+// Puts the bounds of the records' blocks behind so many blocks; `block` gives a record's block.
+fn put_records<T, F: Fn(&T) -> Block>(records: &[T], block: F, before: usize, numbers: &mut [u32])
+    requires gives_blocks { F.IsAlwaysCallable block }
+    requires room { block_bounds * (before + length records.now) ≤ length numbers.old }
+    ensures { (made : T → Block) → Computes F.Fn block made → numbers.new ≡ put_behind numbers.old before (map (λ (x : T). block_of (made x)) records.now) }
 {
-    let mut i: usize = 0;
-    while i < rules.count {
-        let rule = rules.records[i];
-        put_block(rule.block, i, numbers);
-        i += 1;
-    }
-}
-
-// Puts the bounds of the directives' blocks behind so many blocks.
-fn put_directives(policy: Policy, before: usize, numbers: &mut [u32])
-    requires { (policy.directive_count ≤ most_directives) × (before + policy.directive_count ≤ most_blocks) × (length numbers.old ≡ all_bounds) }
-    ensures { numbers.new ≡ sets numbers.old (block_bounds * before) (numbers_of (directive_blocks policy)) }
-{
-    let mut i: usize = 0;
-    while i < policy.directive_count {
-        let directive = policy.directives[i];
-        put_block(directive.block, before + i, numbers);
-        i += 1;
-    }
-}
-
-// Puts the bounds of the exceptions' blocks behind so many blocks.
-fn put_exceptions(policy: Policy, before: usize, numbers: &mut [u32])
-    requires { (policy.exception_count ≤ most_exceptions) × (before + policy.exception_count ≤ most_blocks) × (length numbers.old ≡ all_bounds) }
-    ensures { numbers.new ≡ sets numbers.old (block_bounds * before) (numbers_of (exception_blocks policy)) }
-{
-    let mut i: usize = 0;
-    while i < policy.exception_count {
-        let exception = policy.exceptions[i];
-        put_block(exception.block, before + i, numbers);
-        i += 1;
+    for (i, record) in records.iter().enumerate() {
+        put_block(block(record), before + i, numbers);
     }
 }
 
@@ -72,6 +73,5 @@ fn put_block(block: Block, at: usize, numbers: &mut [u32])
     requires { block_bounds * at + block_bounds ≤ length numbers.old }
     ensures { numbers.new ≡ sets numbers.old (block_bounds * at) (bounds (block_of block)) }
 {
-    let bounds = block.bounds();
-    layout::write_numbers(&bounds, BOUNDS * at, numbers);
+    layout::write_numbers(&block.bounds(), BOUNDS * at, numbers);
 }

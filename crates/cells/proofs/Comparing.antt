@@ -1,5 +1,5 @@
 -- The walk that compares two sets strip by strip. Assumes nothing.
-use mathlib.Core.Path.{◌≡◌, refl, ◌∙◌, subst}
+use mathlib.Core.Path.{◌≡◌, ◌∙◌, subst}
 use mathlib.Core.Bool.{Bool, true, false}
 use Prim.Native.Nat.{ℕ, ◌+◌, ◌≤◌, ◌<◌}
 use native.Mathlib.Omega.{arith}
@@ -7,7 +7,7 @@ use native.Mathlib.Decide.{dec_lt}
 use lib.ListN.{length, get_or}
 use Rattle.meaning.specs.Sizes.{most_strips}
 use Rattle.cells.specs.declared.Left.{Left}
-use Rattle.cells.specs.Cells.{Chart, Formed, left_label, step, Same, Tells}
+use Rattle.cells.specs.Cells.{Chart, left_label, step, Same, Tells}
 use Rattle.cells.proofs.Below.{same_last, differ_last, same_strips, differ_strip}
 
 -- Before a strip of the field: a and b agree at all strips passed, and so do x and y, the last that were compared.
@@ -15,22 +15,10 @@ pub record Compared (w : Chart) (field : ℕ) (a b : Left) (count strip : ℕ) (
   pub is_field : field < length w.counts
   pub is_count : count ≡ get_or w.counts field 0
   pub few : count ≤ most_strips
-  pub within : strip ≤ count
   pub agreed : (i : ℕ) → i < strip → Same w (field + 1) (step w field a i) (step w field b i)
   pub last_agreed : Same w (field + 1) x y
 
 module _ (w : Chart) (field : ℕ) (a b : Left) (count : ℕ) where
-  pub compared_start : (x : Left) → Formed w → field < length w.counts → count ≡ get_or w.counts field 0 → Compared w field a b count 0 x x
-  compared_start x f h e =
-      record {
-        is_field = h;
-        is_count = e;
-        few = omega (arith, f.few field);
-        within = omega arith;
-        agreed = λ i l. absurd (omega arith);
-        last_agreed = λ p i. refl;
-      }
-
   module _ (strip : ℕ) (x y : Left) (z : Compared w field a b count strip x y) where
     pub compared_more : (x' y' : Left) → strip < count → x' ≡ step w field a strip → y' ≡ step w field b strip → Same w (field + 1) x' y'
         → Compared w field a b count (strip + 1) x' y'
@@ -41,7 +29,6 @@ module _ (w : Chart) (field : ℕ) (a b : Left) (count : ℕ) where
           is_field = z.is_field;
           is_count = z.is_count;
           few = z.few;
-          within = omega arith;
           agreed = λ i l. elim (dec_lt i strip) [
             | yes m ↦ z.agreed i m
             | no m ↦ subst (λ (j : ℕ). Same w (field + 1) (step w field a j) (step w field b j)) (omega arith) here

@@ -118,3 +118,5 @@ module _ (words : List ℕ) (e turning own : ℕ) where
 
     pub freeing_end : rest ≡ 0 → false ≡ asked_by words e turning own
     freeing_end n = sym (free_none mask_digits 0 words e) ∙ ap (free_from mask_digits 0 words e) (sym n) ∙ z.so_far
+
+pub ruleset freeing = (asked_by_exception, freeing_start, freeing_within, freeing_less, freeing_found, freeing_more, freeing_end)

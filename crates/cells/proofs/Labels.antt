@@ -43,3 +43,5 @@ module _ (a d : Bool) (r t u : ℕ) where
   pub label_unasked : a ≡ false → d ≡ false → ¬ (r ≡ 0) → unasked (t + 1) ≡ label_by a d r t u
   unfolding label_by judged
   label_unasked p q s = simp (p, q, ne_eqb r 0 s)
+
+pub ruleset rows = (label_conflict, label_unmet_accept, label_accepted, label_denied_wrongly, label_unmet_deny, label_accepted_wrongly, label_denied, label_nothing, label_unasked)

@@ -7,6 +7,7 @@ use Rattle.meaning.specs.Listings.{Agree}
 use Rattle.meaning.specs.Records.{nothing, found}
 use Rattle.meaning.specs.Rules.{accept, deny}
 use Rattle.meaning.specs.Sizes.{most_strips, mask_kinds, mask_digits, field_masks, first_owner, front_words, accepting_rules, accepting_directives, of_accepting, of_denying}
+use Rattle.cells.specs.declared.Chart as lent
 use Rattle.cells.specs.declared.Left.{Left}
 
 -- What a walk looks at. The words are: which rules accept; which directives ask for accept; the exceptions of the directives that
@@ -18,6 +19,10 @@ pub record Chart : Type 0 where
 
 abbrev pub chart : List ℕ → List ℕ → Chart
 chart words counts = record { words = words; counts = counts }
+
+-- a chart that a walk is lent
+abbrev pub chart_of : lent.Chart → Chart
+chart_of c = chart c.words.now c.counts.now
 
 -- there are words for every strip, and no field has more strips than there is room for
 pub record Formed (w : Chart) : Type 0 where

@@ -4,14 +4,14 @@
 
 #![tactic(auto)]
 
-ghost use Rattle.std.specs.Prelude.{◌≡◌, ◌+◌, ◌≤◌, ◌<◌, length, get_or};
+ghost use Rattle.std.specs.Prelude.{◌≡◌, ◌<◌, length, get_or};
 ghost use Rattle.meaning.specs.Fields.{fields};
-ghost use Rattle.meaning.specs.Form.{most_rules, most_directives, most_exceptions};
 ghost use Rattle.meaning.specs.Sizes.{field_count, all_bounds, all_masks, all_places, all_words};
-ghost use Rattle.bounds.specs.SetBlocks.{Limited};
+ghost use Rattle.bounds.specs.SetBlocks.{Limited, CountsLimited};
 ghost use Rattle.charts.specs.Charted.{FieldsCharted, Charted};
 
 use blocks::{Block, FIELDS};
+use bounds::BlockCounts;
 use layout::{FIELD_MASKS, FIELD_PLACES, FIRST_MASK, NUMBERS};
 use sets::{Policy, Rules};
 
@@ -30,49 +30,39 @@ pub fn chart(
     let mut numbers = [0u32; NUMBERS];
     bounds::put_blocks(rules, policy, &mut numbers);
     front::put_front(rules, policy, words);
-    chart_fields(
-        rules.count,
-        policy.directive_count,
-        policy.exception_count,
-        &numbers,
-        &mut words[FIRST_MASK..],
-        counts,
-        places,
-    );
+    let blocks = BlockCounts {
+        rules: rules.count,
+        directives: policy.directive_count,
+        exceptions: policy.exception_count,
+    };
+    chart_fields(blocks, &numbers, &mut words[FIRST_MASK..], counts, places);
 }
 
 // Fills the charts of the fields, one after the other.
 fn chart_fields(
-    rules: usize,
-    directives: usize,
-    exceptions: usize,
+    blocks: BlockCounts,
     numbers: &[u32],
     masks: &mut [u64],
     counts: &mut [usize],
     places: &mut [u64],
 )
-    requires rules_le_most_rules { (rules ≤ most_rules) × (directives ≤ most_directives) × (exceptions ≤ most_exceptions) × (length numbers.now ≡ all_bounds) }
+    requires limited { CountsLimited blocks }
+    requires numbers_len { length numbers.now ≡ all_bounds }
     requires masks_len { (length masks.old ≡ all_masks) × (length counts.old ≡ field_count) × (length places.old ≡ all_places) }
-    ensures { FieldsCharted numbers.now rules directives exceptions 0 fields masks.new places.new counts.new }
+    ensures { FieldsCharted numbers.now blocks.rules blocks.directives blocks.exceptions 0 fields masks.new places.new counts.new }
 {
-    let mut field: usize = 0;
-    while field < FIELDS {
-        let size = size_of(field);
+    // By number: what is written through parts that an iterator lends, no contract could tell.
+    for field in 0..FIELDS {
         let start = FIELD_MASKS * field;
-        let end = start + FIELD_MASKS;
         let first = FIELD_PLACES * field;
-        let last = first + FIELD_PLACES;
         counts[field] = strips::chart_field(
             field,
-            size,
-            rules,
-            directives,
-            exceptions,
+            size_of(field),
+            blocks,
             numbers,
-            &mut masks[start..end],
-            &mut places[first..last],
+            &mut masks[start..start + FIELD_MASKS],
+            &mut places[first..first + FIELD_PLACES],
         );
-        field += 1;
     }
 }
 
@@ -82,12 +72,5 @@ fn size_of(field: usize) -> u64
     ensures { result ≡ get_or fields field 0 }
 {
     let widest = Block::widest().bounds();
-    number_above(widest[2 * field + 1])
-}
-
-// The next number.
-fn number_above(number: u32) -> u64
-    ensures { result ≡ number + 1 }
-{
-    number as u64 + 1
+    u64::from(widest[2 * field + 1]) + 1
 }

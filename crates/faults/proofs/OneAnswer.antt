@@ -4,6 +4,8 @@ use mathlib.Core.List.{List}
 use Prim.Native.Nat.{ℕ}
 use native.Mathlib.Decide.{ℕ_discrete}
 use lib.ListN.{length}
+use Rattle.std.specs.Option.{unwrap_or}
+use Rattle.std.specs.Prelude.{Option, Some, None, Result, IfSome}
 use Rattle.meaning.specs.Buffers as buffers
 use Rattle.meaning.specs.Fields.{fields}
 use Rattle.meaning.specs.Form.{table_of, policy_of}
@@ -16,18 +18,19 @@ use Rattle.meaning.proofs.VerdictUnique.{verdict_is_unique}
 use Rattle.contracts.specs.Answers.{OneAnswer, OneOutcome}
 use Rattle.blocks.proofs.OneAnswer.{one_packet}
 use Rattle.sets.specs.declared.Policy.{Policy}
+use Rattle.sets.specs.declared.Refusal.{Refusal}
 use Rattle.sets.specs.declared.Rules.{Rules}
-use Rattle.sets.specs.Vocabulary.{rule_set_of, policy_set_of}
-use Rattle.sets.proofs.OneAnswer.{one_refusal}
+use Rattle.sets.specs.Vocabulary.{rule_set_of, policy_set_of, told_or}
+use Rattle.sets.proofs.OneAnswer.{one_told}
 use Rattle.labels.proofs.OneAnswer.{one_label}
-use Rattle.findings.specs.Found.{label_at}
+use Rattle.findings.specs.Found as findings
+use Rattle.findings.specs.Found.{label_at, AtFault}
+use Rattle.findings.specs.declared.Finding.{Finding}
 use Rattle.faults.specs.Answers.{refused, verdict_of, JudgedAs, ListedAs}
-use Rattle.faults.specs.declared.Judged.{Judged}
-use Rattle.faults.specs.declared.Listed.{Listed}
 use Rattle.faults.proofs.listing.Reads as listing_call
 use Rattle.faults.proofs.verdict.Reads as verdict_call
 
-one_verdict : (rules : Rules) (policy : Policy) (r s : Judged)
+one_verdict : (rules : Rules) (policy : Policy) (r s : Result (Option Finding) Refusal)
     → JudgedAs rules policy r
     → JudgedAs rules policy s
     → verdict_of r ≡ verdict_of s
@@ -37,23 +40,38 @@ one_verdict rules policy r s a b =
       | no e ↦ a.zeros e ∙ sym (b.zeros e)
     ]
 
+-- one number told, as no directive has the number 0
+one_number : (a b : Option ℕ) → ¬ (a ≡ Some 0) → ¬ (b ≡ Some 0) → unwrap_or a 0 ≡ unwrap_or b 0 → a ≡ b
+one_number None None h k e = refl
+one_number None (Some n) h k e = absurd (k (ap Some (sym e)))
+one_number (Some m) None h k e = absurd (h (ap Some e))
+one_number (Some m) (Some n) h k e = ap Some e
+
+-- one finding, as what is found is at fault and so no conforming
+one_finding : (r s : Option Finding) → IfSome r AtFault → IfSome s AtFault → findings.verdict_of r ≡ findings.verdict_of s → r ≡ s
+one_finding None None h k e = refl
+one_finding None (Some g) h k e = absurd (k.label (sym (ap (λ (v : Verdict). v.label) e)))
+one_finding (Some f) None h k e = absurd (h.label (ap (λ (v : Verdict). v.label) e))
+one_finding (Some f) (Some g) h k e =
+    λ i.
+    Some
+    (record {
+      label = one_label _ f.label g.label (ap (λ (v : Verdict). v.label) e) refl i;
+      accept_directive = one_number f.accept_directive g.accept_directive h.accept_directive k.accept_directive (ap (λ (v : Verdict). v.accept_directive) e) i;
+      deny_directive = one_number f.deny_directive g.deny_directive h.deny_directive k.deny_directive (ap (λ (v : Verdict). v.deny_directive) e) i;
+      packet = one_packet _ f.packet g.packet (ap (λ (v : Verdict). v.packet) e) refl i;
+    })
+
 pub verdict_once : OneAnswer (verdict_call.Post)
 verdict_once κs a r s after after' e f =
-    let v = one_verdict _ _ r s e f in
-    λ i.
-    record {
-      refusal = one_refusal _ r.refusal s.refusal e.refusal f.refusal i;
-      label = one_label _ r.label s.label (ap (λ (w : Verdict). w.label) v) refl i;
-      accept_directive = (v i).accept_directive;
-      deny_directive = (v i).deny_directive;
-      packet = one_packet _ r.packet s.packet (ap (λ (w : Verdict). w.packet) v) refl i;
-    }
+    one_told None _ (told_or None s) r s e.refusal f.refusal
+    (one_finding (told_or None r) (told_or None s) e.at_fault f.at_fault (one_verdict _ _ r s e f)) refl
 
 -- one listing, so one total and one content of the buffer
-one_telling : (rules : Rules) (policy : Policy) (before after after' : List ℕ) (r s : Listed)
+one_telling : (rules : Rules) (policy : Policy) (before after after' : List ℕ) (r s : Result ℕ Refusal)
     → ListedAs rules policy before after r
     → ListedAs rules policy before after' s
-    → (r.total ≡ s.total) × (after ≡ after')
+    → (told_or 0 r ≡ told_or 0 s) × (after ≡ after')
 one_telling rules policy before after after' r s a b =
     elim (ℕ_discrete (refused rules policy).number 0) [
       | yes e ↦
@@ -72,4 +90,4 @@ one_telling rules policy before after after' r s a b =
 pub listing_once : OneOutcome (λ after. after.1.1.0.now) (listing_call.Post)
 listing_once κs a r s after after' e f =
     let same = one_telling _ _ _ _ _ r s e f in
-    (λ i. record { refusal = one_refusal _ r.refusal s.refusal e.refusal f.refusal i; total = same.0 i }, same.1)
+    (one_told 0 _ (told_or 0 s) r s e.refusal f.refusal same.0 refl, same.1)

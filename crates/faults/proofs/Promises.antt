@@ -5,6 +5,7 @@ use mathlib.Core.List.{List, []}
 use Prim.Native.Nat.{ℕ, ◌≤◌}
 use native.Mathlib.Decide.{ℕ_discrete}
 use native.Mathlib.Omega.{arith}
+use Rattle.std.specs.Prelude.{Option, Result}
 use Rattle.meaning.specs.Conformance.{Consistent, Sound, Complete}
 use Rattle.meaning.specs.Fields.{Packet, InRange, fields}
 use Rattle.meaning.specs.Form.{table_of, policy_of}
@@ -14,18 +15,18 @@ use Rattle.meaning.specs.Sizes.{most_listed}
 use Rattle.meaning.proofs.Demands.{each_fault_told_once, same_listing_iff_same_labels}
 use Rattle.meaning.proofs.VerdictConforms.{conforms_said_iff}
 use Rattle.sets.specs.declared.Policy.{Policy}
+use Rattle.sets.specs.declared.Refusal.{Refusal}
 use Rattle.sets.specs.declared.Rules.{Rules}
-use Rattle.sets.specs.Vocabulary.{rule_set_of, policy_set_of, label_of}
+use Rattle.sets.specs.Vocabulary.{rule_set_of, policy_set_of, told_or}
 use Rattle.findings.specs.Found.{label_at, ListingTold}
 use Rattle.faults.specs.Answers.{refused, verdict_of, JudgedAs, ListedAs}
-use Rattle.faults.specs.declared.Judged.{Judged}
-use Rattle.faults.specs.declared.Listed.{Listed}
+use Rattle.findings.specs.declared.Finding.{Finding}
 
 -- "Conforms" is said exactly if the policy is consistent and the table sound and complete for it.
-pub verdict_conforms_iff : (rules : Rules) (policy : Policy) (r : Judged)
+pub verdict_conforms_iff : (rules : Rules) (policy : Policy) (r : Result (Option Finding) Refusal)
     → JudgedAs rules policy r
     → (refused rules policy).number ≡ 0
-    → (kind (label_of r.label) ≡ 0)
+    → (kind (verdict_of r).label ≡ 0)
     ↔ (Consistent fields (policy_of (policy_set_of policy))
     × Sound fields (table_of (rule_set_of rules)) (policy_of (policy_set_of policy))
     × Complete fields (table_of (rule_set_of rules)) (policy_of (policy_set_of policy)))
@@ -49,8 +50,8 @@ listings_same_iff rules others policy other before after before' after' total to
     (policy_of (policy_set_of policy)) (policy_of (policy_set_of other)) t.blocks u.blocks t.listed u.listed
 
 -- The total is at most 10,617,447,681, whatever the sets.
-pub listing_few : (rules : Rules) (policy : Policy) (before after : List ℕ) (r : Listed)
+pub listing_few : (rules : Rules) (policy : Policy) (before after : List ℕ) (r : Result ℕ Refusal)
     → ListedAs rules policy before after r
-    → r.total ≤ most_listed
+    → told_or 0 r ≤ most_listed
 listing_few rules policy before after r a =
     elim (ℕ_discrete (refused rules policy).number 0) [ yes e ↦ (a.told e).few | no e ↦ omega (arith, (a.zeros e).0) ]

@@ -5,90 +5,63 @@
 
 #![tactic(auto)]
 
-ghost use Rattle.findings.specs.Found.{InForm, ListingTold};
-ghost use Rattle.faults.specs.Answers.{JudgedAs, ListedAs};
+ghost use Rattle.std.specs.Prelude.{◌≡◌, IfOk};
+ghost use Rattle.sets.specs.Vocabulary.{refused_of};
+ghost use Rattle.bounds.specs.SetBlocks.{Limited};
+ghost use Rattle.charts.specs.Charted.{Charted};
+ghost use Rattle.faults.specs.Answers.{refused, JudgedAs, ListedAs};
 
-use blocks::{FIELDS, Packet};
-use sets::{Label, Policy, Refusal, Rules};
+use blocks::FIELDS;
+use findings::Finding;
+use sets::{Policy, Refusal, Rules};
 
-// What the verdict call gives: the verdict's label, its two directives and its packet, all zero if the table conforms; or a
-// refusal, and zeros beside it.
-#[derive(Clone, Copy)]
-pub struct Judged {
-    pub refusal: Refusal,
-    pub label: Label,
-    pub accept_directive: u32,
-    pub deny_directive: u32,
-    pub packet: Packet,
+// The chart of two sets: what is asked and done in each strip, how many strips each field has, and where they begin.
+#[derive(Drop)]
+struct Chart {
+    words: [u64; layout::WORDS],
+    counts: [usize; FIELDS],
+    places: [u64; layout::PLACES],
 }
 
-// What the listing call gives: how many blocks the listing has, or a refusal and 0.
-#[derive(Clone, Copy)]
-pub struct Listed {
-    pub refusal: Refusal,
-    pub total: u64,
-}
-
-// The verdict on the rules and the policy, or 14 if they are not in form.
-pub fn verdict(rules: Rules, policy: Policy) -> Judged
+// The verdict on the rules and the policy, None if the table conforms; or 14 if they are not in form.
+pub fn verdict(rules: Rules, policy: Policy) -> Result<Option<Finding>, Refusal>
     ensures { JudgedAs rules policy result }
 {
-    let refusal = form::refuse_sets(rules, policy);
-    if refusal.number == 0 {
-        judge_sets(rules, policy)
-    } else {
-        Judged {
-            refusal,
-            label: Label::Good,
-            accept_directive: 0,
-            deny_directive: 0,
-            packet: Packet::LOWEST,
-        }
-    }
+    let chart = charted(rules, policy)?;
+    Ok(findings::verdict(rules, policy, &chart.words, &chart.counts, &chart.places))
 }
 
 // How many blocks the fault listing has, or 14 if the rules or the policy are not in form. The first blocks that fit are written
 // to the buffer from the front, a row of numbers each: kind, rule, low and high of each field.
-pub fn listing(rules: Rules, policy: Policy, buffer: &mut [u32]) -> Listed
+pub fn listing(rules: Rules, policy: Policy, buffer: &mut [u32]) -> Result<u64, Refusal>
     ensures { ListedAs rules policy buffer.old buffer.new result }
 {
-    let refusal = form::refuse_sets(rules, policy);
-    if refusal.number == 0 {
-        let total = list_sets(rules, policy, buffer);
-        return Listed { refusal, total };
-    }
-    Listed { refusal, total: 0 }
+    let Chart {
+        words,
+        counts,
+        places,
+    } = charted(rules, policy)?;
+    Ok(findings::listing(rules, policy, &words, &counts, &places, buffer))
 }
 
-// The verdict on sets in form.
-fn judge_sets(rules: Rules, policy: Policy) -> Judged
-    requires { InForm rules policy }
-    ensures { JudgedAs rules policy result }
+// The chart of the rules and the policy, or 14 if they are not in form.
+fn charted(rules: Rules, policy: Policy) -> Result<Chart, Refusal>
+    ensures refusal { refused_of result ≡ refused rules policy }
+    ensures limited { IfOk result (λ chart. Limited rules policy) }
+    ensures charted { IfOk result (λ chart. Charted rules policy chart.words chart.counts chart.places) }
 {
-    let mut words = [0u64; layout::WORDS];
-    let mut counts = [0usize; FIELDS];
-    let mut places = [0u64; layout::PLACES];
-    charts::chart(rules, policy, &mut words, &mut counts, &mut places);
-    let found = findings::verdict(rules, policy, &words, &counts, &places);
-    let label = found.label;
-    let packet = found.packet;
-    Judged {
-        refusal: Refusal::NONE,
-        label,
-        accept_directive: found.accept_directive,
-        deny_directive: found.deny_directive,
-        packet,
-    }
-}
-
-// How many blocks the listing of sets in form has; the first that fit are written.
-fn list_sets(rules: Rules, policy: Policy, buffer: &mut [u32]) -> u64
-    requires { InForm rules policy }
-    ensures { ListingTold rules policy buffer.old buffer.new result }
-{
-    let mut words = [0u64; layout::WORDS];
-    let mut counts = [0usize; FIELDS];
-    let mut places = [0u64; layout::PLACES];
-    charts::chart(rules, policy, &mut words, &mut counts, &mut places);
-    findings::listing(rules, policy, &words, &counts, &places, buffer)
+    form::refuse_sets(rules, policy)?;
+    let mut chart = Chart {
+        words: [0; layout::WORDS],
+        counts: [0; FIELDS],
+        places: [0; layout::PLACES],
+    };
+    charts::chart(
+        rules,
+        policy,
+        &mut chart.words,
+        &mut chart.counts,
+        &mut chart.places,
+    );
+    Ok(chart)
 }

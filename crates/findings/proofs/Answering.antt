@@ -1,15 +1,17 @@
 -- From the chart of sets within their limits to the verdict and the listing over all packets. Assumes nothing.
 use mathlib.Core.Path.{◌≡◌, refl, sym, ap, ◌∙◌, subst}
 use mathlib.Core.List.{List, [], ◌∷◌, map}
-use Prim.Native.Nat.{ℕ, ◌≤◌, ◌<◌}
+use Prim.Native.Nat.{ℕ, zero, suc, ◌≤◌, ◌<◌}
 use native.Mathlib.Omega.{arith}
+use Rattle.std.specs.Prelude.{Option, Some}
+use Rattle.std.specs.Option.{unwrap_or}
 use lib.ListN.{length, length-map, length-append}
 use Rattle.meaning.specs.Buffers as buffers
 use Rattle.meaning.specs.Fields.{Packet, InRange, fields}
 use Rattle.meaning.specs.Form as form
 use Rattle.meaning.specs.Labels.{Label, good, kind, rule}
 use Rattle.meaning.specs.Rules as table
-use Rattle.meaning.specs.Rules.{Action}
+use Rattle.meaning.specs.Rules.{Action, accept, deny}
 use Rattle.meaning.specs.Listings as listings
 use Rattle.meaning.specs.Policies.{lowest_asking}
 use Rattle.meaning.specs.Records.{Every, every_none, every_more}
@@ -36,8 +38,8 @@ use Rattle.lister.specs.Runs.{Placed, blocks_below}
 use Rattle.lister.proofs.Few.{blocks_few}
 use Rattle.lister.proofs.Listing.{blocks_listed}
 use Rattle.lister.proofs.Written.{rows_written}
-use Rattle.judge.specs.declared.Best.{Best}
-use Rattle.judge.specs.Ranks.{cell_rank, BestOf, none_below, first_of}
+use Rattle.judge.specs.Ranks.{cell_rank, FirstBelow}
+use Rattle.labels.specs.Answers.{number_told}
 use Rattle.bounds.specs.SetBlocks.{Limited, rules_of}
 use Rattle.charts.specs.Charted.{Charted}
 use Rattle.charts.proofs.CellLabels.{fields_charted, cuts, cell_labels}
@@ -46,10 +48,19 @@ use Rattle.charts.proofs.Cuts.{sizes_are, counts_are}
 use Rattle.charts.proofs.FieldCharts.{charts_long}
 use Rattle.charts.proofs.Lefts.{everything}
 use Rattle.charts.proofs.Parts.{parts_all}
-use Rattle.findings.specs.Found.{label_at, verdict_of, VerdictFor, ListingFor, ListingTold}
+use Rattle.findings.specs.Found.{label_at, verdict_of, AtFault, VerdictFor, ListingFor, ListingTold}
 use Rattle.findings.specs.Inner.{IsVerdictAt, CornerPlaced, corner_at}
 use Rattle.findings.specs.declared.Finding.{Finding}
 use Rattle.findings.proofs.Corners.{charts_placed, corner_placed, stretch_charted}
+
+-- a number told is had back, and is not 0
+told_back : (n : ℕ) → unwrap_or (number_told n) 0 ≡ n
+told_back zero = refl
+told_back (suc n) = refl
+
+told_some : (n : ℕ) → ¬ (number_told n ≡ Some 0)
+told_some zero e = cc
+told_some (suc n) e = cc
 
 module _ {rules : Rules} {policy : Policy} {words counts places : List ℕ} (limited : Limited rules policy) (c : Charted rules policy words counts places) where
   -- which directives ask at a packet
@@ -122,12 +133,15 @@ module _ {rules : Rules} {policy : Policy} {words counts places : List ℕ} (lim
         let in_Cell = corner_in_cell (cuts limited c) (subst (λ (ns : List ℕ). InRange ns cell) (sym cut_counts) o.in_range) in
         ap packet_rank corner_is ∙ cell_ranks cell (corner (cuts limited c) cell) in_Cell
 
+    -- the label there is not good
+    corner_at_fault : cell_rank (chart words counts) 0 everything cell < good_rank → ¬ (label_at rules policy (corner_at places cell) ≡ good)
+    corner_at_fault less e = omega (arith, corner_rank, good_ranks most_rules (label_at rules policy (corner_at places cell)) e)
+
     -- the verdict is the answer at the corner of the best cell
-    pub cell_found : cell_rank (chart words counts) 0 everything cell < good_rank
+    cell_found : cell_rank (chart words counts) 0 everything cell < good_rank
         → VerdictFor rules policy (verdict_at (label_at rules policy) asking (corner_at places cell))
     cell_found less =
-        first_is_verdict fields (label_at rules policy) asking most_rules numbered (corner_at places cell) first_packet
-        (λ e. omega (arith, corner_rank, good_ranks most_rules (label_at rules policy (corner_at places cell)) e))
+        first_is_verdict fields (label_at rules policy) asking most_rules numbered (corner_at places cell) first_packet (corner_at_fault less)
 
   -- the listing over cells is, stretched, the listing
   abbrev listed_cells : List (listings.Listed Label)
@@ -170,29 +184,33 @@ module _ {rules : Rules} {policy : Policy} {words counts places : List ℕ} (lim
         written = a ∙ ap (rows_from before 0) (same_rows cells_formed) ∙ rows_written before listed_blocks blocks_formed;
       }
 
-  -- by the best cell: its rank is that of good, or it is the verdict's
-  module _ (b : Best) (best : BestOf counts (cell_rank (chart words counts) 0 everything) b) where
-    pub conforms_right : b.rank ≡ good_rank → VerdictFor rules policy (conforms fields)
-    conforms_right e = from best
-      where
-        from : BestOf counts (cell_rank (chart words counts) 0 everything) b → VerdictFor rules policy (conforms fields)
-        from (none_below r all) = none_found all
-        from (first_of o r less) = absurd (omega arith)
+  -- by the best cell, of which the corner is the packet of the finding
+  module _ (cell : List ℕ) (n : ℕ) (best : FirstBelow counts (cell_rank (chart words counts) 0 everything) good_rank n cell) where
+    less : cell_rank (chart words counts) 0 everything cell < good_rank
+    less = omega (arith, best.is_rank, best.is_below)
 
-    first_cell : ¬ (b.rank ≡ good_rank) → FirstOf counts cell_rank_lem b.strips × (cell_rank_lem b.strips < good_rank)
-    first_cell e = from best
-      where
-        from : BestOf counts cell_rank_lem b → FirstOf counts cell_rank_lem b.strips × (cell_rank_lem b.strips < good_rank)
-        from (none_below r all) = absurd (e r)
-        from (first_of o r less) = (o, omega (arith, r))
+    pub placed_right : CornerPlaced places cell
+    placed_right = cell_placed cell best.first_of
 
-    pub placed_right : ¬ (b.rank ≡ good_rank) → CornerPlaced places b.strips
-    placed_right e = cell_placed b.strips (first_cell e).0
+    module _ (packet : blocks.Packet) (r : Finding) (at : packet_of packet ≡ corner_at places cell) (v : IsVerdictAt rules policy packet r) where
+      -- the verdict told is the one at the packet
+      told : verdict_of (Some r) ≡ verdict_at (label_at rules policy) asking (packet_of packet)
+      told i =
+          record {
+            label = v.label i;
+            accept_directive = (ap (λ (o : Option ℕ). unwrap_or o 0) v.accept_directive ∙ told_back (asking accept (packet_of packet))) i;
+            deny_directive = (ap (λ (o : Option ℕ). unwrap_or o 0) v.deny_directive ∙ told_back (asking deny (packet_of packet))) i;
+            packet = packet_of (v.at i);
+          }
 
-    pub found_right : (packet : blocks.Packet) (r : Finding) → ¬ (b.rank ≡ good_rank) → packet_of packet ≡ corner_at places b.strips
-        → IsVerdictAt rules policy packet r
-        → VerdictFor rules policy (verdict_of r)
-    found_right packet r e at v =
-        let o = first_cell e in
-        let same = ap (verdict_at (label_at rules policy) asking) (sym at) ∙ sym v.answer in
-        subst (VerdictFor rules policy) same (cell_found b.strips o.0 o.1)
+      pub found_right : VerdictFor rules policy (verdict_of (Some r))
+      found_right =
+          subst (VerdictFor rules policy) (ap (verdict_at (label_at rules policy) asking) (sym at) ∙ sym told) (cell_found cell best.first_of less)
+
+      pub found_at_fault : AtFault r
+      found_at_fault =
+          record {
+            label = λ e. corner_at_fault cell best.first_of less (ap (label_at rules policy) (sym at) ∙ sym v.label ∙ e);
+            accept_directive = λ e. told_some (asking accept (packet_of packet)) (sym v.accept_directive ∙ e);
+            deny_directive = λ e. told_some (asking deny (packet_of packet)) (sym v.deny_directive ∙ e);
+          }

@@ -2,4 +2,3 @@
 pub mod Forming
 mod Corners
 mod Answering
-mod CornerWalk

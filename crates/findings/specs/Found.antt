@@ -1,5 +1,6 @@
 -- The verdict and the listing of the table and the policy that two sets stand for, over all packets.
-use Rattle.std.specs.Prelude.{List, ◌≡◌, ℕ, ◌≤◌, length}
+use Rattle.std.specs.Prelude.{Option, Some, None, List, ◌≡◌, ℕ, ◌≤◌, length}
+use Rattle.std.specs.Option.{unwrap_or}
 use Rattle.meaning.specs.Buffers as buffers
 use Rattle.meaning.specs.Fields.{fields}
 use Rattle.meaning.specs.Form as form
@@ -21,10 +22,22 @@ InForm rules policy = (form.refuse_sets fields (rule_set_of rules) (policy_set_o
 abbrev pub label_at : Rules → Policy → List ℕ → labels.Label
 label_at rules policy = labels.label (form.table_of (rule_set_of rules)) (form.policy_of (policy_set_of policy))
 
--- what a verdict stands for
-abbrev pub verdict_of : Finding → verdicts.Verdict
-verdict_of r =
-    record { label = label_of r.label; accept_directive = r.accept_directive; deny_directive = r.deny_directive; packet = packet_of r.packet }
+-- the verdict that is told: by nothing that the table conforms; where no directive is told its number is 0
+abbrev pub verdict_of : Option Finding → verdicts.Verdict
+verdict_of None = verdicts.conforms fields
+verdict_of (Some r) =
+    record {
+      label = label_of r.label;
+      accept_directive = unwrap_or r.accept_directive 0;
+      deny_directive = unwrap_or r.deny_directive 0;
+      packet = packet_of r.packet;
+    }
+
+-- what is found is at fault, and no directive has the number 0: so there is one way to tell a verdict
+pub record AtFault (r : Finding) : Type 0 where
+  pub label : ¬ (label_of r.label ≡ labels.good)
+  pub accept_directive : ¬ (r.accept_directive ≡ Some 0)
+  pub deny_directive : ¬ (r.deny_directive ≡ Some 0)
 
 -- v is the verdict on the table and the policy
 abbrev pub VerdictFor : Rules → Policy → verdicts.Verdict → Type 0

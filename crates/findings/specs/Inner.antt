@@ -3,20 +3,24 @@ use Rattle.std.specs.Prelude.{List, ◌≡◌, ℕ, ◌+◌, ◌*◌, ◌^◌, �
 use Rattle.meaning.specs.Fields.{Packet}
 use Rattle.meaning.specs.Form as form
 use Rattle.meaning.specs.Policies.{lowest_asking}
+use Rattle.meaning.specs.Rules.{accept, deny}
 use Rattle.meaning.specs.Sizes.{field_count, field_places}
-use Rattle.meaning.specs.Verdicts.{verdict_at}
 use Rattle.blocks.specs.declared.Packet as blocks
 use Rattle.blocks.specs.Vocabulary.{packet_of}
 use Rattle.sets.specs.declared.Policy.{Policy}
 use Rattle.sets.specs.declared.Rules.{Rules}
-use Rattle.sets.specs.Vocabulary.{policy_set_of}
+use Rattle.sets.specs.Vocabulary.{policy_set_of, label_of}
+use Rattle.labels.specs.Answers.{number_told}
 use Rattle.charts.proofs.Corners.{corner_in}
-use Rattle.findings.specs.Found.{label_at, verdict_of}
+use Rattle.findings.specs.Found.{label_at}
 use Rattle.findings.specs.declared.Finding.{Finding}
 
 -- r is the verdict's answer at a packet
 pub record IsVerdictAt (rules : Rules) (policy : Policy) (packet : blocks.Packet) (r : Finding) : Type 0 where
-  pub answer : verdict_of r ≡ verdict_at (label_at rules policy) (lowest_asking (form.policy_of (policy_set_of policy))) (packet_of packet)
+  pub label : label_of r.label ≡ label_at rules policy (packet_of packet)
+  pub accept_directive : r.accept_directive ≡ number_told (lowest_asking (form.policy_of (policy_set_of policy)) accept (packet_of packet))
+  pub deny_directive : r.deny_directive ≡ number_told (lowest_asking (form.policy_of (policy_set_of policy)) deny (packet_of packet))
+  pub at : r.packet ≡ packet
 
 -- the places of the strips of a cell
 abbrev pub corner_at : List ℕ → List ℕ → Packet

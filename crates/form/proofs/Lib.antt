@@ -1,3 +1,4 @@
 mod Exceptions
 mod Orders
+mod Records
 pub mod OneAnswer

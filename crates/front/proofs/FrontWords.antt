@@ -1,6 +1,6 @@
 -- The words that tell of actions: the walks that write which exceptions belong to which directives, and the front that comes of it. Assumes nothing.
 use mathlib.Core.Path.{◌≡◌, refl, sym, ap, ◌∙◌}
-use mathlib.Core.Bool.{Bool, true, false, not, ◌&&◌, ◌||◌, cond}
+use mathlib.Core.Bool.{Bool, true, false, not, ◌&&◌, ◌||◌}
 use mathlib.Core.List.{List, [], ◌∷◌, ◌++◌, map}
 use Prim.Native.Nat.{ℕ, zero, suc, ◌+◌, ◌*◌, ◌≤◌, ◌<◌}
 use native.Mathlib.Numerals.{add-one}
@@ -21,7 +21,7 @@ use Rattle.sets.specs.Inner.{directives_of, exceptions_of}
 use Rattle.sets.specs.Vocabulary.{directive_of}
 use Rattle.sets.specs.declared.Directive.{Directive}
 use Rattle.sets.specs.declared.Policy.{Policy}
-use Rattle.front.specs.Inner.{owners_from, TurningPut}
+use Rattle.front.specs.Inner.{owners_from}
 use Rattle.bounds.proofs.Within.{length_within}
 
 -- one mask a directive
@@ -46,9 +46,6 @@ pub record OwnersUpTo (k : ℕ) (es : List Exception) (l : List ℕ) (i : ℕ) (
   pub stored : words ≡ sets l first_owner (take i (owners_from 1 k es))
 
 module _ (k : ℕ) (es : List Exception) (l : List ℕ) where
-  pub owners_start : OwnersUpTo k es l 0 l
-  owners_start = record { within = omega arith; long = refl; stored = refl }
-
   taken_more : (i m : ℕ) → i < k → m ≡ mask (λ (e : Exception). eqb e.directive (i + 1)) es
       → take (i + 1) (owners_from 1 k es) ≡ take i (owners_from 1 k es) ++ (m ∷ [])
   taken_more i m h is_mask =
@@ -133,14 +130,6 @@ module _ (test : Rule → Bool) (ds : List Rule) (es : List Exception) (d : Rule
       one_of e =
           by (names_such test 1 ds e.directive) (eqb e.directive (1 + length ds)) (test d) t ∙ sym (names_more test 1 e.directive ds d)
 
-is_one : (b : Bool) (digit : ℕ) → digit ≡ cond b 1 0 → digit ≡ 1 → b ≡ true
-is_one true digit e one = refl
-is_one false digit e one = absurd (omega (arith, e, one))
-
-not_one : (b : Bool) (digit : ℕ) → digit ≡ cond b 1 0 → ¬ (digit ≡ 1) → b ≡ false
-not_one true digit e other = absurd (other e)
-not_one false digit e other = refl
-
 -- the exceptions of those of the first i directives that accept, and of those that deny
 pub record TurnedUpTo (p : Policy) (i accepting denying : ℕ) : Type 0 where
   pub within : i ≤ p.directive_count
@@ -156,29 +145,19 @@ module _ (p : Policy) where
         are_denying = sym (such_none (λ (d : Rule). not (accepts d)) (exceptions_of p));
       }
 
-  pub turned_end : {i a b : ℕ} {before : List ℕ} → length (directives_of p) ≤ i → TurnedUpTo p i a b
-      → TurningPut p before (set (set before of_accepting a) of_denying b)
-  turned_end {i} {a} {b} past w =
-      let all = take_all i (directives_of p) past in
-      record {
-        of_accepting_word = a;
-        of_denying_word = b;
-        put = refl;
-        are_accepting = w.are_accepting ∙ ap (such accepts (exceptions_of p)) all;
-        are_denying = w.are_denying ∙ ap (such (λ (d : Rule). not (accepts d)) (exceptions_of p)) all;
-      }
-
   module _ (enough : p.directive_count ≤ length p.directives) (i a b own : ℕ) (x : Directive) (h : i < p.directive_count)
+      (is_next : x ≡ get_or (take p.directive_count p.directives) i x)
       (is_own : own ≡ mask (λ (e : Exception). eqb e.directive (suc i)) (exceptions_of p)) (w : TurnedUpTo p i a b) where
     abbrev d : Rule
-    d = directive_of (get_or p.directives i x)
+    d = directive_of x
 
     one_more : take (i + 1) (directives_of p) ≡ take i (directives_of p) ++ (d ∷ [])
     one_more =
+        let it = ap directive_of (sym (is_next ∙ get_or-take p.directive_count p.directives i x h)) in
         rw (add-one i)
-        (take-suc (directives_of p) i (directive_of x) (omega (arith, length_within directive_of p.directives p.directive_count enough))
+        (take-suc (directives_of p) i d (omega (arith, length_within directive_of p.directives p.directive_count enough))
         ∙ ap (λ (r : Rule). take i (directives_of p) ++ (r ∷ []))
-        (get_or-take p.directive_count (map directive_of p.directives) i (directive_of x) h ∙ get_or-map directive_of p.directives i x))
+        (get_or-take p.directive_count (map directive_of p.directives) i d h ∙ get_or-map directive_of p.directives i x ∙ it))
 
     so_many : length (take i (directives_of p)) ≡ i
     so_many = length-take-le i (directives_of p) (omega (arith, length_within directive_of p.directives p.directive_count enough))
@@ -195,22 +174,20 @@ module _ (p : Policy) where
         → m ≡ such test (exceptions_of p) (take (i + 1) (directives_of p))
     kept test m t is_m = is_m ∙ such_same test (take i (directives_of p)) (exceptions_of p) d t ∙ ap (such test (exceptions_of p)) (sym one_more)
 
-    pub turned_accept : {digit : ℕ} → digit ≡ cond (accepts d) 1 0 → digit ≡ 1 → TurnedUpTo p (i + 1) (bit_or a own) b
-    turned_accept is_digit one =
-        let yes : accepts d ≡ true = is_one (accepts d) _ is_digit one in
+    pub turned_accept : accepts d ≡ true → TurnedUpTo p (i + 1) (bit_or a own) b
+    turned_accept asks =
         record {
           within = omega arith;
-          are_accepting = grown accepts a yes w.are_accepting;
-          are_denying = kept (λ (r : Rule). not (accepts r)) b (ap not yes) w.are_denying;
+          are_accepting = grown accepts a asks w.are_accepting;
+          are_denying = kept (λ (r : Rule). not (accepts r)) b (ap not asks) w.are_denying;
         }
 
-    pub turned_deny : {digit : ℕ} → digit ≡ cond (accepts d) 1 0 → ¬ (digit ≡ 1) → TurnedUpTo p (i + 1) a (bit_or b own)
-    turned_deny is_digit other =
-        let no : accepts d ≡ false = not_one (accepts d) _ is_digit other in
+    pub turned_deny : accepts d ≡ false → TurnedUpTo p (i + 1) a (bit_or b own)
+    turned_deny denies =
         record {
           within = omega arith;
-          are_accepting = kept accepts a no w.are_accepting;
-          are_denying = grown (λ (r : Rule). not (accepts r)) b (ap not no) w.are_denying;
+          are_accepting = kept accepts a denies w.are_accepting;
+          are_denying = grown (λ (r : Rule). not (accepts r)) b (ap not denies) w.are_denying;
         }
 
 -- the exceptions of k directives, stored behind the first words of l

@@ -1,3 +1,3 @@
 -- The laws of the front words.
-mod MaskWalk
+mod MaskWithin
 mod FrontWords

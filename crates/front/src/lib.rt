@@ -4,15 +4,16 @@
 
 #![tactic(auto)]
 
-ghost use Rattle.std.specs.Prelude.{cond, ◌≡◌, ◌≤◌, eqb, length, take};
+ghost use Rattle.std.specs.Prelude.{Bool, ◌≡◌, ◌≤◌, eqb, length, take};
 ghost use Rattle.std.proofs.lemmas.List.Edits.{sets};
-ghost use Rattle.meaning.specs.Form.{Exception, most_rules, most_directives, most_exceptions};
+ghost use Rattle.meaning.specs.Form.{Exception, most_directives, most_exceptions};
 ghost use Rattle.meaning.specs.Rules.{accept, same_action};
-ghost use Rattle.meaning.specs.Sizes.{first_owner, front_words, all_words};
+ghost use Rattle.meaning.specs.Sizes.{first_owner, front_words, mask_digits, all_words};
 ghost use Rattle.sets.specs.Inner.{directives_of, exceptions_of};
 ghost use Rattle.sets.specs.Vocabulary.{action_of};
 ghost use Rattle.layout.specs.Masks.{mask};
-ghost use Rattle.cells.specs.Words.{accepts, WordsOf};
+ghost use Rattle.layout.specs.Passed.{Computes};
+ghost use Rattle.cells.specs.Words.{WordsOf};
 ghost use Rattle.bounds.specs.SetBlocks.{Limited, rules_of};
 ghost use Rattle.front.specs.Inner.{owners_of, OwnersPut, TurningPut};
 
@@ -24,52 +25,34 @@ pub fn put_front(rules: Rules, policy: Policy, words: &mut [u64])
     requires words_len { length words.old ≡ all_words }
     ensures { WordsOf (rules_of rules) (directives_of policy) (exceptions_of policy) (take front_words words.new) }
 {
-    words[layout::ACCEPTING_RULES] = accepting_rules(rules);
-    words[layout::ACCEPTING_DIRECTIVES] = accepting_directives(policy);
+    words[layout::ACCEPTING_RULES] = mask(&rules.records[..rules.count], |rule| {
+        accepts(rule.action)
+    });
+    words[layout::ACCEPTING_DIRECTIVES] = mask(
+        &policy.directives[..policy.directive_count],
+        |directive| accepts(directive.action),
+    );
     put_owners(policy, words);
     put_turning(policy, words);
 }
 
-// Which rules accept.
-fn accepting_rules(rules: Rules) -> u64
-    requires { rules.count ≤ most_rules }
-    ensures { result ≡ mask accepts (rules_of rules) }
+// Which records pass the test: a binary digit for each, the first record's the lowest.
+fn mask<T, F: Fn(&T) -> bool>(records: &[T], test: F) -> u64
+    requires answers { F.IsAlwaysCallable test }
+    requires few { length records.now ≤ mask_digits }
+    ensures { (passes : T → Bool) → Computes F.Fn test passes → result ≡ mask passes records.now }
 {
-    let mut mask: u64 = 0;
-    let mut i = rules.count;
-    while 0 < i {
-        i -= 1;
-        let rule = rules.records[i];
-        let action = rule.action;
-        mask = accepting(action) + 2 * mask;
-    }
-    mask
+    records
+        .iter()
+        .rev()
+        .fold(0, |mask, record| (mask << 1) | u64::from(test(record)))
 }
 
-// Which directives ask for accept.
-fn accepting_directives(policy: Policy) -> u64
-    requires { policy.directive_count ≤ most_directives }
-    ensures { result ≡ mask accepts (directives_of policy) }
+// Whether an action is accept.
+fn accepts(action: Action) -> bool
+    ensures { result ≡ same_action accept (action_of action) }
 {
-    let mut mask: u64 = 0;
-    let mut i = policy.directive_count;
-    while 0 < i {
-        i -= 1;
-        let directive = policy.directives[i];
-        let action = directive.action;
-        mask = accepting(action) + 2 * mask;
-    }
-    mask
-}
-
-// 1 for accept, 0 for deny.
-fn accepting(action: Action) -> u64
-    ensures { result ≡ cond (same_action accept (action_of action)) 1 0 }
-{
-    match action {
-        Action::Accept => 1,
-        Action::Deny => 0,
-    }
+    action == Action::Accept
 }
 
 // Writes the exceptions of each directive.
@@ -77,10 +60,8 @@ fn put_owners(policy: Policy, words: &mut [u64])
     requires { (policy.directive_count ≤ most_directives) × (policy.exception_count ≤ most_exceptions) × (length words.old ≡ all_words) }
     ensures { words.new ≡ sets words.old first_owner (owners_of policy) }
 {
-    let mut i: usize = 0;
-    while i < policy.directive_count {
+    for i in 0..policy.directive_count {
         words[layout::OF_EACH + i] = exceptions_of(policy, i + 1);
-        i += 1;
     }
 }
 
@@ -89,24 +70,10 @@ fn exceptions_of(policy: Policy, number: usize) -> u64
     requires { policy.exception_count ≤ most_exceptions }
     ensures { result ≡ mask (λ (e : Exception). eqb e.directive number) (exceptions_of policy) }
 {
-    let mut mask: u64 = 0;
-    let mut i = policy.exception_count;
-    while 0 < i {
-        i -= 1;
-        let exception = policy.exceptions[i];
-        mask = named(exception.directive, number) + 2 * mask;
-    }
-    mask
-}
-
-// 1 if the directive is the one with this number, else 0.
-fn named(directive: u32, number: usize) -> u64
-    ensures { result ≡ cond (eqb directive number) 1 0 }
-{
-    if directive as usize == number {
-        return 1;
-    }
-    0
+    mask(
+        &policy.exceptions[..policy.exception_count],
+        |exception| exception.directive as usize == number,
+    )
 }
 
 // Writes the exceptions of the directives that accept, and of those that deny.
@@ -116,16 +83,12 @@ fn put_turning(policy: Policy, words: &mut [u64])
 {
     let mut accept: u64 = 0;
     let mut deny: u64 = 0;
-    let mut i: usize = 0;
-    while i < policy.directive_count {
-        let directive = policy.directives[i];
-        let action = directive.action;
-        let own = words[layout::OF_EACH + i];
-        i += 1;
-        if accepting(action) == 1 {
-            accept = accept | own;
+    let directives = &policy.directives[..policy.directive_count];
+    for (directive, own) in directives.iter().zip(&words[layout::OF_EACH..]) {
+        if accepts(directive.action) {
+            accept |= own;
         } else {
-            deny = deny | own;
+            deny |= own;
         }
     }
     words[layout::OF_ACCEPTING] = accept;

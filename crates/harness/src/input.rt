@@ -1,62 +1,69 @@
-// The input as a stream: a buffer, and which of its bytes are read from the input but not answered yet.
+// The input as a stream of requests, one a line. The other harness fills its buffer likewise, but answers from the buffer itself; a
+// crate that both would stand on for this alone would be no plainer.
 
-ghost use Rattle.std.specs.Prelude.{◌≡◌, ◌+◌, ◌≤◌, length, IfOk, OnErr};
+ghost use Rattle.std.specs.Prelude.{◌≤◌, vec_len};
 
-use std::io::{Input, Read, Result};
+use crate::requests::Request;
+use std::alloc::Global;
+use std::io::{Read, Result};
+
+// How many bytes are held at most.
+const ROOM: usize = 65_536;
 
 // More bytes than a line has: a letter, and sixteen times a space and ten digits; or words behind `#`.
 const MOST_BYTES: usize = 1024;
 
-// The bytes of a buffer from start up to end.
-#[derive(Clone, Copy)]
-pub(crate) struct Unread {
-    pub(crate) start: usize,
-    pub(crate) end: usize,
+// What is read of the input and not taken yet: the buffer's bytes from start on.
+#[derive(Drop)]
+pub(crate) struct Requests<R> {
+    reader: R,
+    buffer: Vec<u8>,
+    start: usize,
+    ghost within: { start ≤ vec_len buffer },
 }
 
-impl Unread {
-    // Sees to it that the buffer has a whole line, if the input has one: where less than the longest is left, that moves to the
-    // start, and the room behind it is filled from the input. The one error is that of a read; other bytes may stand in the buffer then.
-    pub(crate) fn refill(self, rt: &impl Input, buffer: &mut [u8]) -> Result<Unread>
-        requires { (self.start ≤ self.end) × (self.end ≤ length buffer.old) }
-        ensures ok { IfOk result (λ unread. (unread.start ≤ unread.end) × (unread.end ≤ length buffer.new)) }
-        ensures err { OnErr result (length buffer.new ≡ length buffer.old) }
+impl<R: Read> Requests<R> {
+    // The requests that a reader gives.
+    pub(crate) fn new(alloc: Global, reader: R) -> Result<Requests<R>>
+    where
+        R: Drop,
     {
-        let left = self.end - self.start;
-        if MOST_BYTES <= left {
-            return Ok(self);
-        }
-        shift(buffer, self.start, left);
-        let more = read_full(&mut rt.reader(), &mut buffer[left..])?;
-        Ok(Unread {
+        Ok(Requests {
+            reader,
+            buffer: Vec::with_capacity(alloc, ROOM)?,
             start: 0,
-            end: left + more,
         })
     }
-}
 
-// Reads until the buffer is full or the input ends, and gives how many bytes were read. The one error is that of a read; other bytes
-// may stand in the buffer then.
-fn read_full(reader: &mut impl Read, buffer: &mut [u8]) -> Result<usize>
-    ensures ok { IfOk result (λ end. end ≤ length buffer.new) }
-    ensures err { OnErr result (length buffer.new ≡ length buffer.old) }
-{
-    let mut end: usize = 0;
-    while end < buffer.len() {
-        let more = reader.read(&mut buffer[end..])?;
-        if more == 0 {
-            break;
+    // Sees to it that the buffer has a whole line, if the input has one: where less than the longest is left, that moves to the
+    // start, and the room behind it is filled from the input. The one error is that of a read or of memory.
+    fn refill(&mut self) -> Result<()> {
+        let left = self.buffer.len() - self.start;
+        if left < MOST_BYTES {
+            self.buffer.drain(..self.start);
+            self.start = 0;
+            let room = (ROOM - left) as u64;
+            self.reader
+                .by_ref()
+                .take(room)
+                .read_to_end(&mut self.buffer)?;
         }
-        end += more;
+        Ok(())
     }
-    Ok(end)
 }
 
-// Moves so many bytes from a place to the start of the buffer.
-fn shift(buffer: &mut [u8], from: usize, count: usize)
-    requires { from + count ≤ length buffer.old }
-{
-    for i in 0..count {
-        buffer[i] = buffer[from + i];
+impl<R: Read + Drop> Iterator for Requests<R> {
+    type Item = Result<Request>;
+
+    // The request on the next line; none if the line is not ended.
+    fn next(&mut self) -> Option<Result<Request>> {
+        if let Err(error) = self.refill() {
+            return Some(Err(error));
+        }
+        let unread = &self.buffer[self.start..];
+        let length = unread.iter().position(|byte| *byte == b'\n')?;
+        let request = Request::read(&unread[..length]);
+        self.start += length + 1;
+        Some(Ok(request))
     }
 }

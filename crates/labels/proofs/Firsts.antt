@@ -1,29 +1,49 @@
--- The first record that passes a test, walking the records within a count. Assumes nothing.
-use mathlib.Core.Bool.{Bool, true, false}
-use mathlib.Core.List.{List, map}
-use mathlib.Core.Path.{◌≡◌, sym, ap, ◌∙◌}
+-- The first record that passes a test, by its place. Assumes nothing.
+use mathlib.Core.Bool.{Bool, true, false, cond}
+use mathlib.Core.List.{List, [], ◌∷◌, map}
+use mathlib.Core.Path.{◌≡◌, refl, sym, ap, ◌∙◌}
 use native.Mathlib.Numerals.{add-one}
-use Prim.Native.Nat.{ℕ, ◌+◌, ◌≤◌, ◌<◌, min}
-use lib.ListN.{length, take, drop, get_or}
-use Rattle.meaning.specs.Records.{Found, nothing, found, first_from}
-use Rattle.sets.proofs.Walks.{next, over}
+use native.Mathlib.Omega.{arith}
+use Prim.Native.Nat.{ℕ, suc, ◌+◌, ◌-◌, ◌≤◌}
+use lib.ListN.{get_or}
+use Rattle.std.specs.Prelude.{Some, None}
+use Rattle.std.specs.List.{position_from}
+use Rattle.meaning.specs.Records.{nothing, found, first_from}
 
-module _ {A B : Type 0} (f : A → B) (l : List A) (n : ℕ) (test : B → Bool) where
-  -- the first of those left at i
-  abbrev pub first_left : ℕ → Found B
-  first_left i = first_from (i + 1) test (drop i (take n (map f l)))
+module _ {A B : Type 0} (f : A → B) (test : B → Bool) where
+  abbrev at : A → Bool
+  at x = test (f x)
 
-  module _ (i : ℕ) (d : A) (counted : i < n) (there : i < length l) where
-    pub first_here : test (f (get_or l i d)) ≡ true → first_left i ≡ found (i + 1) (f (get_or l i d))
-    unfolding first_from
-    first_here e = ap (first_from (i + 1) test) (next f l n i d counted there) ∙ simp e
-
-    pub first_later : test (f (get_or l i d)) ≡ false → first_left i ≡ first_left (i + 1)
-    unfolding first_from
-    first_later e =
-        ap (first_from (i + 1) test) (next f l n i d counted there) ∙ (simp e)
-        ∙ ap (λ (k : ℕ). first_from k test (drop (i + 1) (take n (map f l)))) (sym (add-one (i + 1)))
-
-  pub first_over : (i : ℕ) → min n (length l) ≤ i → first_left i ≡ nothing
+  pub first_none : (k : ℕ) (l : List A) → position_from at k l ≡ None → first_from (k + 1) test (map f l) ≡ nothing
   unfolding first_from
-  first_over i h = ap (first_from (i + 1) test) (over f l n i h)
+  first_none k [] e = refl
+  first_none k (x ∷ l) e = by (first_none (k + 1) l) (test (f x)) refl e
+    where
+      by : (position_from at (k + 1) l ≡ None → first_from (k + 1 + 1) test (map f l) ≡ nothing)
+          → (b : Bool) → test (f x) ≡ b → cond b (Some k) (position_from at (k + 1) l) ≡ None
+          → cond (test (f x)) (found (k + 1) (f x)) (first_from (suc (k + 1)) test (map f l)) ≡ nothing
+      by later true t h = cc
+      by later false t h = simp t (ap (λ (n : ℕ). first_from n test (map f l)) (sym (add-one (k + 1))) ∙ later h)
+
+  pub first_some : (k i : ℕ) (l : List A) (d : A) → position_from at k l ≡ Some i
+      → (k ≤ i) × (first_from (k + 1) test (map f l) ≡ found (i + 1) (f (get_or l (i - k) d)))
+  unfolding first_from
+  first_some k i [] d e = cc
+  first_some k i (x ∷ l) d e = by (first_some (k + 1) i l d) (test (f x)) refl e
+    where
+      by : (position_from at (k + 1) l ≡ Some i → (k + 1 ≤ i) × (first_from (k + 1 + 1) test (map f l) ≡ found (i + 1) (f (get_or l (i - (k + 1)) d))))
+          → (b : Bool) → test (f x) ≡ b → cond b (Some k) (position_from at (k + 1) l) ≡ Some i
+          → (k ≤ i) × (cond (test (f x)) (found (k + 1) (f x)) (first_from (suc (k + 1)) test (map f l)) ≡ found (i + 1) (f (get_or (x ∷ l) (i - k) d)))
+      by left true t h =
+          let same : k ≡ i = cc in
+          let none : 0 ≡ i - k = omega arith in
+          (omega arith, simp t (ap (λ (n : ℕ). found (n + 1) (f x)) same ∙ ap (λ (n : ℕ). found (i + 1) (f (get_or (x ∷ l) n d))) none))
+      by left false t h =
+          let later = left h in
+          let less : suc (i - (k + 1)) ≡ i - k = omega (arith, later.0) in (
+            omega (arith, later.0),
+            simp t
+                (ap (λ (n : ℕ). first_from n test (map f l)) (sym (add-one (k + 1)))
+                ∙ later.1
+                ∙ ap (λ (n : ℕ). found (i + 1) (f (get_or (x ∷ l) n d))) less),
+          )

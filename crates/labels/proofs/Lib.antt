@@ -1,3 +1,4 @@
+mod Records
 mod Marks
 mod Firsts
 mod Asking

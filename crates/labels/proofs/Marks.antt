@@ -4,7 +4,7 @@ use mathlib.Core.List.{List, [], ◌∷◌}
 use mathlib.Core.Path.{◌≡◌, refl, sym, ap, ◌∙◌}
 use native.Mathlib.Decide.{ℕ_discrete}
 use native.Mathlib.Omega.{arith}
-use Prim.Native.Nat.{ℕ, ◌≤◌, ◌<◌}
+use Prim.Native.Nat.{ℕ, ◌+◌, ◌≤◌, ◌<◌}
 use borrow.Author.Tests.{eq-eqb, ne_eqb, leb-true, leb-false}
 use lib.Dec.{leb, eqb}
 use lib.ListN.{length, get_or, set, replicate, length-set, get_or-replicate, length-replicate}
@@ -43,10 +43,10 @@ module _ (p : Packet) where
           ap (λ (b : Bool). b && true) (ne_eqb e.directive n (λ z. omega arith)) ∙ none
       by_tests false t few = and-false (eqb e.directive n) ∙ none
 
-  pub excepted_within : (e : Exception) → excepted_directive p e < 33
+  pub excepted_within : (e : Exception) → excepted_directive p e ≤ most_directives
   excepted_within e = by_tests (holds e.block p) (leb e.directive most_directives) refl
     where
-      by_tests : (h t : Bool) → leb e.directive most_directives ≡ t → cond (h && t) e.directive 0 < 33
+      by_tests : (h t : Bool) → leb e.directive most_directives ≡ t → cond (h && t) e.directive 0 ≤ most_directives
       by_tests true true few = let most : e.directive ≤ most_directives = leb-true e.directive most_directives few in omega arith
       by_tests true false many = omega arith
       by_tests false t few = omega arith
@@ -66,30 +66,56 @@ module _ (p : Packet) where
 
   -- what is marked, and what those left are yet to mark, is together what all mark
   pub record Marked (all left : List Exception) (marks : List Bool) : Type 0 where
-    pub full : length marks ≡ 33
-    pub at : (n : ℕ) → 1 ≤ n → n ≤ most_directives → (get_or marks n false || excepted_among n left) ≡ excepted_among n all
+    pub full : length marks ≡ most_directives
+    pub at : (n : ℕ) → n < most_directives → (get_or marks n false || excepted_among (n + 1) left) ≡ excepted_among (n + 1) all
 
-  pub marked_start : (es : List Exception) → Marked es es (replicate 33 false)
+  pub marked_start : (es : List Exception) → Marked es es (replicate most_directives false)
   marked_start es =
       record {
-        full = length-replicate 33 false;
-        at = λ n one most. ap (λ (b : Bool). b || excepted_among n es) (get_or-replicate 33 n false false (omega arith));
+        full = length-replicate most_directives false;
+        at = λ n few. ap (λ (b : Bool). b || excepted_among (n + 1) es) (get_or-replicate most_directives n false false few);
       }
 
-  pub marked_more : (all : List Exception) (e : Exception) (left : List Exception) (marks : List Bool)
-      → Marked all (e ∷ left) marks → Marked all left (set marks (excepted_directive p e) true)
-  marked_more all e left marks m =
-      record {
-        full = length-set marks (excepted_directive p e) true ∙ m.full;
-        at = λ n one most.
-            ap (λ (b : Bool). b || excepted_among n left) (mark_set marks (excepted_directive p e) n (omega (arith, m.full, excepted_within e)))
-            ∙ or_assoc (get_or marks n false) (eqb (excepted_directive p e) n) (excepted_among n left)
-            ∙ ap (λ (b : Bool). get_or marks n false || (b || excepted_among n left)) (sym (named_and_held n e one most))
-            ∙ ap (λ (b : Bool). get_or marks n false || b) (sym (excepted_more n e left))
-            ∙ m.at n one most;
-      }
+  -- an exception more, of which `named` is the directive that it takes the packet from, or 0
+  module _ (all : List Exception) (e : Exception) (left : List Exception) (marks : List Bool) (m : Marked all (e ∷ left) marks) where
+    more : (n : ℕ) → n < most_directives
+        → (get_or marks n false || eqb (excepted_directive p e) (n + 1) || excepted_among (n + 1) left) ≡ excepted_among (n + 1) all
+    more n few =
+        or_assoc (get_or marks n false) (eqb (excepted_directive p e) (n + 1)) (excepted_among (n + 1) left)
+        ∙ ap (λ (b : Bool). get_or marks n false || (b || excepted_among (n + 1) left)) (sym (named_and_held (n + 1) e (omega arith) (omega arith)))
+        ∙ ap (λ (b : Bool). get_or marks n false || b) (sym (excepted_more (n + 1) e left))
+        ∙ m.at n few
+
+    pub marked_none : 0 ≡ excepted_directive p e → Marked all left marks
+    marked_none none =
+        record {
+          full = m.full;
+          at = λ n few. ap (λ (b : Bool). b || excepted_among (n + 1) left) (sym (as_before n)) ∙ more n few;
+        }
+      where
+        as_before : (n : ℕ) → (get_or marks n false || eqb (excepted_directive p e) (n + 1)) ≡ get_or marks n false
+        as_before n =
+            ap (λ (b : Bool). get_or marks n false || b) (ne_eqb (excepted_directive p e) (n + 1) (λ z. omega (arith, none)))
+            ∙ or-false (get_or marks n false)
+
+    pub marked_some : (k : ℕ) → k + 1 ≡ excepted_directive p e → Marked all left (set marks k true)
+    marked_some k named =
+        record {
+          full = length-set marks k true ∙ m.full;
+          at = λ n few.
+              ap (λ (b : Bool). b || excepted_among (n + 1) left)
+              (mark_set marks k n (omega (arith, m.full, excepted_within e, named)) ∙ ap (λ (b : Bool). get_or marks n false || b) (same n))
+              ∙ more n few;
+        }
+      where
+        same : (n : ℕ) → eqb k n ≡ eqb (excepted_directive p e) (n + 1)
+        same n =
+            elim (ℕ_discrete k n) [
+              | yes h ↦ eq-eqb k n h ∙ sym (eq-eqb (excepted_directive p e) (n + 1) (omega (arith, named)))
+              | no h ↦ ne_eqb k n h ∙ sym (ne_eqb (excepted_directive p e) (n + 1) (λ z. h (omega (arith, named))))
+            ]
 
   pub marked_end : (all : List Exception) (marks : List Bool) → Marked all [] marks
-      → (n : ℕ) → 1 ≤ n → n ≤ most_directives → get_or marks n false ≡ excepted_among n all
+      → (n : ℕ) → n < most_directives → get_or marks n false ≡ excepted_among (n + 1) all
   unfolding some_of naming
-  marked_end all marks m n one most = sym (or-false (get_or marks n false)) ∙ m.at n one most
+  marked_end all marks m n few = sym (or-false (get_or marks n false)) ∙ m.at n few

@@ -1,5 +1,5 @@
 -- Words of private contracts; no public contract uses them.
-use Rattle.std.specs.Prelude.{Bool, false, ◌&&◌, cond, List, ◌≡◌, ℕ, ◌≤◌, leb, get_or}
+use Rattle.std.specs.Prelude.{Bool, false, ◌&&◌, cond, List, ◌≡◌, ℕ, ◌+◌, ◌<◌, leb, get_or, Option, Some, None}
 use Rattle.meaning.specs.Blocks as blocks
 use Rattle.meaning.specs.Fields as fields
 use Rattle.meaning.specs.Form.{Exception, naming, most_directives}
@@ -23,7 +23,12 @@ asked_by a own excepted held = cond excepted (rules.same_action a (rules.opposit
 abbrev pub excepted_directive : fields.Packet → Exception → ℕ
 excepted_directive p e = cond (blocks.holds e.block p && leb e.directive most_directives) e.directive 0
 
--- at each directive's number: whether an exception that names it holds the packet
+-- the number of the directive at a place, or 0
+abbrev pub number_excepted : Option ℕ → ℕ
+number_excepted None = 0
+number_excepted (Some place) = place + 1
+
+-- at each directive's place: whether an exception that names it holds the packet
 pub record Excepted (policy : Policy) (packet : Packet) (marks : List Bool) : Type 0 where
-  pub at : (n : ℕ) → 1 ≤ n → n ≤ most_directives
-      → get_or marks n false ≡ some_of (λ (b : blocks.Block). blocks.holds b (packet_of packet)) (naming n (exceptions_of policy))
+  pub at : (place : ℕ) → place < most_directives
+      → get_or marks place false ≡ some_of (λ (b : blocks.Block). blocks.holds b (packet_of packet)) (naming (place + 1) (exceptions_of policy))

@@ -18,7 +18,7 @@ use Rattle.layout.specs.Masks.{mask}
 abbrev pub digit : Bool → ℕ
 digit b = cond b 1 0
 
-digit_small : (b : Bool) → digit b ≤ 1
+pub digit_small : (b : Bool) → digit b ≤ 1
 digit_small true = omega arith
 digit_small false = omega arith
 

@@ -1,2 +1,3 @@
 -- How to read the notation stands at the top of crates/meaning/specs/Lib.antt.
 pub mod Masks
+pub mod Passed

@@ -26,7 +26,7 @@ pub const FIELD_PLACES: usize = MOST_STRIPS + 1;
 pub const PLACES: usize = FIELD_PLACES * FIELDS;
 
 // The binary digits of a mask.
-const MASK_DIGITS: usize = 64;
+const MASK_DIGITS: usize = u64::BITS as usize;
 
 // The masks of a strip, of rules, directives and exceptions, and those of a field.
 pub const MASK_KINDS: usize = 3;
@@ -55,9 +55,5 @@ pub fn write_numbers(numbers: &[u32], at: usize, buffer: &mut [u32])
     requires { at + length numbers.now ≤ length buffer.old }
     ensures { buffer.new ≡ sets buffer.old at numbers.now }
 {
-    let mut i: usize = 0;
-    while i < numbers.len() {
-        buffer[at + i] = numbers[i];
-        i += 1;
-    }
+    buffer[at..at + numbers.len()].copy_from_slice(numbers);
 }

@@ -11,9 +11,9 @@ use Rattle.contracts.specs.Answers.{OneAnswer, OneSlice}
 use Rattle.contracts.proofs.Answering.{one_answer}
 use Rattle.lines.proofs.after.Reads as after_call
 use Rattle.lines.proofs.behind.Reads as behind_call
-use Rattle.lines.specs.contracts.current as current
+use Rattle.lines.specs.contracts.Lines.current as current
 use Rattle.lines.proofs.line_at.Reads as line_at_call
-use Rattle.lines.specs.contracts.next as next
+use Rattle.lines.specs.contracts.Lines.next as next
 
 module _ (κs : Lfts 1) (a : Args current.signature κs) (r : Res current.signature κs) (s : AtExit current.ended κs) where
   abbrev current_read : Read (In current.signature κs a) no_know (λ w. (current.clauses w.𝓛 w.𝓜.mem w.𝓡.run κs a).ensures tt r s)

@@ -57,5 +57,11 @@ module _ (w : Chart) (field : ℕ) (s : Left) (count strip : ℕ) where
           stops = λ h a. d (agree_trans (agree_sym z.last_agrees) (subst (λ (y : Left). Same w (field + 1) (step w field s strip) y) (sym e) a));
         }
 
-    pub reached_end : count ≤ next → RunEnd w field s count strip next
-    reached_end h = record { rises = z.rises; within = z.within; agrees = z.agrees; stops = λ l. absurd (omega arith) }
+    pub reached_end : count ≤ next → RunEnd w field s count strip count
+    reached_end h =
+        record {
+          rises = omega (arith, z.rises);
+          within = omega arith;
+          agrees = λ i l m. z.agrees i l (omega arith);
+          stops = λ l. absurd (omega arith);
+        }

@@ -7,13 +7,14 @@ use native.Mathlib.Nat.{add-zero}
 use native.Mathlib.Omega.{arith}
 use borrow.Author.Tests.{lt-ltb, le-ltb}
 use lib.Dec.{ltb}
-use lib.ListN.{length, get_or, take, drop, set, length-set, length-drop}
-use lib.Seq.{sets, length-sets, take_all, take-suc-set, drop-set-add}
-use Rattle.meaning.specs.Blocks.{Span}
+use lib.ListN.{length, get_or, take, drop, set}
+use lib.Seq.{sets, length-sets, sets-eq, take_all}
+use borrow.Rule.Slice.PartMut.{put_mid}
+use Rattle.std.proofs.lemmas.Slice.{put_mid-paste}
 use Rattle.meaning.specs.Buffers as buffers
 use Rattle.meaning.specs.Labels.{Label, kind, rule}
 use Rattle.meaning.specs.Listings.{Listed, widen}
-use Rattle.meaning.specs.Sizes.{field_count, block_bounds, row_numbers, field_places}
+use Rattle.meaning.specs.Sizes.{block_bounds, row_numbers, field_places}
 use Rattle.lister.specs.Rows.{bounds, labelled_row, RowWith, span_at, stretched, row_of, row_at, rows_from}
 
 -- with room for the row, and without
@@ -24,6 +25,16 @@ row_fits buffer row t h = simp (lt-ltb t (length buffer / row_numbers) h)
 pub row_left_out : (buffer row : List ℕ) (t : ℕ) → length buffer / row_numbers ≤ t → buffer ≡ row_at buffer t row
 unfolding row_at
 row_left_out buffer row t h = simp (le-ltb t (length buffer / row_numbers) h)
+
+-- a row put in place of as many numbers
+pub row_put : (buffer row new : List ℕ) (t k : ℕ) → new ≡ row → length row ≡ row_numbers → k ≡ row_numbers → t < length buffer / row_numbers
+    → put_mid (row_numbers * t) k buffer new ≡ row_at buffer t row
+row_put buffer row new t k e l f h =
+    let at = row_numbers * t in
+    put_mid-paste at k buffer new row (length row) e (l ∙ sym f) refl
+    ∙ ap (λ (z : List ℕ). take at buffer ++ z ++ drop (at + length row) buffer) (take_all (length row) row (omega arith))
+    ∙ sym (sets-eq row buffer at (omega arith))
+    ∙ row_fits buffer row t h
 
 pub row_length_kept : (buffer row : List ℕ) (t : ℕ) → length (row_at buffer t row) ≡ length buffer
 unfolding row_at
@@ -49,32 +60,6 @@ unfolding labelled_row
 labelled_row_is [] l e = absurd (omega arith)
 labelled_row_is (x ∷ []) l e = absurd (omega arith)
 labelled_row_is (x ∷ y ∷ r) l e = ap (λ (z : List ℕ). kind l ∷ rule l ∷ z) (sym (take_all block_bounds r (omega arith)))
-
--- two stores put the bounds of a field behind those before
-pub row_with_is : (row : List ℕ) (field : ℕ) (s : Span) → length row ≡ row_numbers → field < field_count
-    → RowWith row field s (set (set row (2 + 2 * field) s.low) (3 + 2 * field) s.high)
-row_with_is row field s e h =
-    let high : 3 + 2 * field ≡ 2 + suc (2 * field) = omega arith in
-    let more : 2 * (field + 1) ≡ suc (suc (2 * field)) = omega arith in
-    let long : length (drop 2 row) ≡ block_bounds = length-drop 2 row ∙ omega arith in
-    let one : take (suc (2 * field)) (set (drop 2 row) (2 * field) s.low) ≡ take (2 * field) (drop 2 row) ++ (s.low ∷ []) =
-    take-suc-set (drop 2 row) (2 * field) s.low (omega arith) in
-    let two : take (suc (suc (2 * field))) (set (set (drop 2 row) (2 * field) s.low) (suc (2 * field)) s.high)
-    ≡ take (suc (2 * field)) (set (drop 2 row) (2 * field) s.low) ++ (s.high ∷ []) =
-    take-suc-set (set (drop 2 row) (2 * field) s.low) (suc (2 * field)) s.high (simp length-set (omega arith)) in
-    let moved : drop 2 (set (set row (2 + 2 * field) s.low) (2 + suc (2 * field)) s.high)
-    ≡ set (set (drop 2 row) (2 * field) s.low) (suc (2 * field)) s.high =
-    drop-set-add 2 (set row (2 + 2 * field) s.low) (suc (2 * field)) s.high
-    ∙ ap (λ (z : List ℕ). set z (suc (2 * field)) s.high) (drop-set-add 2 row (2 * field) s.low) in
-    record {
-      more =
-          ap (λ (j : ℕ). take (2 * (field + 1)) (drop 2 (set (set row (2 + 2 * field) s.low) j s.high))) high
-          ∙ ap (λ (j : ℕ). take j (drop 2 (set (set row (2 + 2 * field) s.low) (2 + suc (2 * field)) s.high))) more
-          ∙ ap (λ (z : List ℕ). take (suc (suc (2 * field))) z) moved
-          ∙ two
-          ∙ ap (λ (z : List ℕ). z ++ (s.high ∷ [])) one
-          ∙ append_assoc (take (2 * field) (drop 2 row)) (s.low ∷ []) (s.high ∷ []);
-    }
 
 -- rows below the next field, inside a run of this field, are rows below this field
 module _ (places : List ℕ) (field : ℕ) (row r : List ℕ) (low high : ℕ) (g : RowWith row field (span_at places field low high) r) where

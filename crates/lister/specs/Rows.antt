@@ -6,7 +6,6 @@ use Rattle.meaning.specs.Buffers as buffers
 use Rattle.meaning.specs.Labels.{Label, kind, rule}
 use Rattle.meaning.specs.Listings.{Listed}
 use Rattle.meaning.specs.Sizes.{field_count, row_numbers, field_places}
-use Rattle.cells.specs.Cells.{label_number}
 
 -- the bounds of the first fields in a row, which come after its kind and rule
 abbrev pub bounds : ℕ → List ℕ → List ℕ
@@ -16,9 +15,9 @@ bounds field row = take (2 * field) (drop 2 row)
 unfoldable pub labelled_row : List ℕ → Label → List ℕ
 labelled_row row l = kind l ∷ rule l ∷ bounds field_count row
 
--- r is the row with the kind and rule of the label with this number
-abbrev pub RowLabelled : List ℕ → ℕ → List ℕ → Type 0
-RowLabelled row number r = (l : Label) → number ≡ label_number l → r ≡ labelled_row row l
+-- r is the row with the kind and rule of the label
+abbrev pub RowLabelled : List ℕ → Label → List ℕ → Type 0
+RowLabelled row l r = r ≡ labelled_row row l
 
 -- r is the row with the bounds of a field behind those of the fields before
 pub record RowWith (row : List ℕ) (field : ℕ) (s : Span) (r : List ℕ) : Type 0 where

@@ -93,7 +93,8 @@ module _ (word : List ℕ) (some_word : 0 < length word) (t : List ℕ) where
             ∙ ap (λ (ps : List Piece). cond (named word (line_at t at)) (here ∷ ps) ps) (sym (over (end + 1) (omega arith)))
       ]
 
-  first_is : (at : ℕ) → at ≤ length t → named word (line_at t at) ≡ true → rest word t at ≡ record { place = at; bytes = line_at t at } ∷ rest word t (after t at)
+  first_is : (at : ℕ) → at ≤ length t → named word (line_at t at) ≡ true
+      → rest word t at ≡ record { place = at; bytes = line_at t at } ∷ rest word t (after t at)
   first_is at h e = first at h ∙ simp e
 
   first_other : (at : ℕ) → at ≤ length t → named word (line_at t at) ≡ false → rest word t at ≡ rest word t (after t at)

@@ -12,7 +12,7 @@ ghost use Rattle.lookup.specs.Lookups.{record_of, word_of, text_of};
 use lines::Cursor;
 
 // Which of the two texts is meant.
-#[derive(Clone, Copy)]
+#[derive(Clone, Copy, PartialEq, Eq)]
 pub enum Which {
     Rules,
     Policy,
@@ -28,7 +28,8 @@ pub fn record_line<'a>(rules: &'a [u8], policy: &'a [u8], which: Which, n: usize
     }
 }
 
-// The line of record n of a text, where a record's first field is the word.
+// The line of record n of a text, where a record's first field is the word. The loop goes from cursor to cursor, and no `split` is gone
+// through: of its parts std says which bytes they are, and not where in the text they stand.
 fn find<'a, 'b>(text: &'a [u8], word: &'b [u8], n: usize) -> &'a [u8]
     requires { 0 < length word.now }
     ensures { seen result ≡ shown text.entry (record_of word.now text.now n) }
@@ -42,10 +43,8 @@ fn find<'a, 'b>(text: &'a [u8], word: &'b [u8], n: usize) -> &'a [u8]
             if left == 1 {
                 return line;
             }
-            if 0 < left {
-                left -= 1;
-            }
+            left = left.saturating_sub(1);
         }
     }
-    &text[0..0]
+    &text[..0]
 }

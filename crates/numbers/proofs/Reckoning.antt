@@ -4,13 +4,13 @@ use mathlib.Core.List.{List, [], ◌∷◌}
 use mathlib.Core.Path.{◌≡◌, refl, ap, ap₂, sym, ◌∙◌}
 use native.Mathlib.Numerals.{add-one}
 use native.Mathlib.Omega.{arith}
+use Rattle.std.specs.Prelude.{Some, None}
 use Prim.Native.Nat.{ℕ, ◌+◌, ◌-◌, ◌*◌, ◌≤◌, ◌<◌}
 use borrow.Author.Tests.{le-leb, lt-leb, leb-true}
 use lib.Dec.{eqb, leb}
-use lib.ListN.{length, drop, get_or}
+use lib.ListN.{length, drop, get_or, drop_of_length-le}
 use lib.Seq.{drop-cons}
 use Rattle.numbers.specs.Decimals.{digits, plain, value, decimal_of}
-use Rattle.numbers.specs.declared.Number.TheVariants.{Is, Unread}
 
 -- how a number may begin, by the text's length
 pub plain_none : (s : List ℕ) → length s ≡ 0 → plain s ≡ false
@@ -55,28 +55,39 @@ module _ (s : List ℕ) (i : ℕ) (h : i < length s) where
 
 -- when a text is a number, and when not
 module _ (most : ℕ) (s : List ℕ) where
-  pub decimal_is : plain s ≡ true → digits s ≡ true → value 0 s ≤ most → decimal_of most s ≡ Is (value 0 s)
+  pub decimal_is : plain s ≡ true → digits s ≡ true → value 0 s ≤ most → decimal_of most s ≡ Some (value 0 s)
   unfolding decimal_of
   decimal_is p d m = simp (p, d, le-leb (value 0 s) most m)
 
-  pub decimal_unplain : plain s ≡ false → decimal_of most s ≡ Unread
+  pub decimal_unplain : plain s ≡ false → decimal_of most s ≡ None
   unfolding decimal_of
   decimal_unplain p = simp p
 
-  pub decimal_letters : digits s ≡ false → decimal_of most s ≡ Unread
+  pub decimal_letters : digits s ≡ false → decimal_of most s ≡ None
   unfolding decimal_of
   decimal_letters d = simp (d, and-false)
 
-  pub decimal_large : most < value 0 s → decimal_of most s ≡ Unread
+  pub decimal_large : most < value 0 s → decimal_of most s ≡ None
   unfolding decimal_of
   decimal_large h = simp (lt-leb (value 0 s) most h, and-false)
 
   -- a number that reads is not past the largest
-  pub decimal_le : (n : ℕ) → decimal_of most s ≡ Is n → n ≤ most
+  pub decimal_le : (n : ℕ) → decimal_of most s ≡ Some n → n ≤ most
   unfolding decimal_of
   decimal_le n e = go (plain s && digits s) (leb (value 0 s) most) refl e
     where
-      go : (a b : Bool) → leb (value 0 s) most ≡ b → cond (a && b) (Is (value 0 s)) Unread ≡ Is n → n ≤ most
+      go : (a b : Bool) → leb (value 0 s) most ≡ b → cond (a && b) (Some (value 0 s)) None ≡ Some n → n ≤ most
       go true true h f = let v : value 0 s ≡ n = cc in omega (arith, leb-true (value 0 s) most h)
       go true false h f = let z : ◌≡◌ {A = ℕ} 0 1 = cc in omega arith
       go false b h f = let z : ◌≡◌ {A = ℕ} 0 1 = cc in omega arith
+
+  -- reading has come to v at place i, and the next byte takes it past the largest
+  pub decimal_past : (v i : ℕ) → i < length s → value 0 s ≡ value v (drop i s) → most < v * 10 + (get_or s i 0 - 48) → decimal_of most s ≡ None
+  decimal_past v i h e past =
+      let is = e ∙ value_at s i h v in
+      let grows = value_grows (v * 10 + (get_or s i 0 - 48)) (drop (i + 1) s) in
+      decimal_large (omega arith)
+
+  -- reading has come to v at the end
+  pub value_read : (v i : ℕ) → length s ≤ i → value 0 s ≡ value v (drop i s) → value 0 s ≡ v
+  value_read v i h e = e ∙ ap (value v) (drop_of_length-le s {i = i} h)

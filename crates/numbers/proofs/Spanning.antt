@@ -3,6 +3,7 @@ use mathlib.Core.Bool.{Bool, true, false, cond}
 use mathlib.Core.List.{List}
 use mathlib.Core.Path.{◌≡◌, refl}
 use native.Mathlib.Omega.{arith}
+use Rattle.std.specs.Prelude.{Option, Some, None, Result, Ok, Err}
 use Prim.Native.Nat.{ℕ, ◌≤◌}
 use borrow.Author.Tests.{leb-true}
 use lib.Dec.{eqb, leb}
@@ -11,40 +12,38 @@ use Rattle.parts.specs.Parts.{parts, part, same}
 use Rattle.parts.specs.Words.{bytes, minus}
 use Rattle.numbers.specs.Decimals.{decimal_of}
 use Rattle.numbers.specs.Intervals.{span, single, range, interval_of}
-use Rattle.numbers.specs.declared.Bounds.TheVariants as bounds
-use Rattle.numbers.specs.declared.Bounds.{Bounds}
-use Rattle.numbers.specs.declared.Number.TheVariants as number
-use Rattle.numbers.specs.declared.Number.{Number}
+use Rattle.blocks.specs.declared.Span.{Span}
+use Rattle.numbers.specs.declared.Unfit.TheVariants.{NoSpan}
+use Rattle.numbers.specs.declared.Unfit.{Unfit}
 use Rattle.numbers.proofs.Reckoning.{decimal_le}
 
 -- a number that reads is not past the largest
-abbrev pub NotPast : ℕ → Number → Type 0
-NotPast most (number.Is n) = n ≤ most
-NotPast most number.Unread = Unit {0}
+abbrev pub NotPast : ℕ → Option ℕ → Type 0
+NotPast most (Some n) = n ≤ most
+NotPast most None = Unit {0}
 
 -- bounds that read do not fall, and the high one is not past the largest
-abbrev pub InField : ℕ → Bounds → Type 0
-InField most (bounds.Are s) = (s.low ≤ s.high) × (s.high ≤ most)
-InField most bounds.Unread = Unit {0}
-InField most bounds.NoSpan = Unit {0}
+abbrev pub InField : ℕ → Result Span Unfit → Type 0
+InField most (Ok s) = (s.low ≤ s.high) × (s.high ≤ most)
+InField most (Err e) = Unit {0}
 
 pub decimal_not_past : (most : ℕ) (s : List ℕ) → NotPast most (decimal_of most s)
 decimal_not_past most s = go (decimal_of most s) refl
   where
-    go : (n : Number) → decimal_of most s ≡ n → NotPast most n
-    go (number.Is n) e = decimal_le most s n e
-    go number.Unread e = tt
+    go : (n : Option ℕ) → decimal_of most s ≡ n → NotPast most n
+    go (Some n) e = decimal_le most s n e
+    go None e = tt
 
-pub single_in_field : (most : ℕ) (n : Number) → NotPast most n → InField most (single n)
-single_in_field most (number.Is n) h = (omega arith, h)
-single_in_field most number.Unread h = tt
+pub single_in_field : (most : ℕ) (n : Option ℕ) → NotPast most n → InField most (single n)
+single_in_field most (Some n) h = (omega arith, h)
+single_in_field most None h = tt
 
-pub range_in_field : (most : ℕ) (n m : Number) → NotPast most m → InField most (range n m)
-range_in_field most number.Unread m h = tt
-range_in_field most (number.Is low) number.Unread h = tt
-range_in_field most (number.Is low) (number.Is high) h = go (leb low high) refl
+pub range_in_field : (most : ℕ) (n m : Option ℕ) → NotPast most m → InField most (range n m)
+range_in_field most None m h = tt
+range_in_field most (Some low) None h = tt
+range_in_field most (Some low) (Some high) h = go (leb low high) refl
   where
-    go : (b : Bool) → leb low high ≡ b → InField most (cond b (bounds.Are (span low high)) bounds.NoSpan)
+    go : (b : Bool) → leb low high ≡ b → InField most (cond b (Ok (span low high)) (Err NoSpan))
     go true e = (leb-true low high e, h)
     go false e = tt
 
@@ -53,7 +52,8 @@ unfolding interval_of
 interval_in_field most s = go (same s (bytes "*")) (eqb (length (parts minus s)) 2)
   where
     go : (a b : Bool)
-        → InField most (cond a (bounds.Are (span 0 most)) (cond b (range (decimal_of most (part minus s 0)) (decimal_of most (part minus s 1))) (single (decimal_of most s))))
+        → InField most
+        (cond a (Ok (span 0 most)) (cond b (range (decimal_of most (part minus s 0)) (decimal_of most (part minus s 1))) (single (decimal_of most s))))
     go true b = (omega arith, omega arith)
     go false true = range_in_field most (decimal_of most (part minus s 0)) (decimal_of most (part minus s 1)) (decimal_not_past most (part minus s 1))
     go false false = single_in_field most (decimal_of most s) (decimal_not_past most s)

@@ -1,8 +1,6 @@
 -- "Decimal numbers have no sign and no leading zero, except 0 itself."
-use Rattle.std.specs.Prelude.{Bool, true, false, cond, not, ◌&&◌, List, [], ◌∷◌, ℕ, ◌+◌, ◌-◌, ◌*◌, eqb, leb}
+use Rattle.std.specs.Prelude.{Bool, true, false, cond, not, ◌&&◌, List, [], ◌∷◌, ℕ, ◌+◌, ◌-◌, ◌*◌, eqb, leb, Option, None, Some}
 use Prim.Native.Char.{code}
-use Rattle.numbers.specs.declared.Number.TheVariants.{Is, Unread}
-use Rattle.numbers.specs.declared.Number.{Number}
 
 -- all bytes are digits
 abbrev pub digits : List ℕ → Bool
@@ -21,10 +19,10 @@ value v [] = v
 value v (x ∷ xs) = value (v * 10 + (x - code "0")) xs
 
 -- a decimal number up to a largest; of any length, since the value is a number without limit
-unfoldable pub decimal_of : ℕ → List ℕ → Number
-decimal_of most s = cond ((plain s && digits s) && leb (value 0 s) most) (Is (value 0 s)) Unread
+unfoldable pub decimal_of : ℕ → List ℕ → Option ℕ
+decimal_of most s = cond ((plain s && digits s) && leb (value 0 s) most) (Some (value 0 s)) None
 
 -- go on with the number, or with what is said if none reads
-abbrev pub on_number : {A : Type 0} → Number → A → (ℕ → A) → A
-on_number (Is n) unread go = go n
-on_number Unread unread go = unread
+abbrev pub on_number : {A : Type 0} → Option ℕ → A → (ℕ → A) → A
+on_number (Some n) unread go = go n
+on_number None unread go = unread

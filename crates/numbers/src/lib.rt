@@ -12,18 +12,10 @@ ghost use Rattle.numbers.specs.Intervals.{single, range, interval_of};
 
 use blocks::Span;
 
-// The number that a text is, if it reads.
-#[derive(Clone, Copy)]
-pub enum Number {
-    Is(u32),
-    Unread,
-}
-
-// The bounds that a field gives; that it does not read; or that it reads, but not as a span: the bounds fall, a prefix has bits past
-// its length, or a mask is not ones and then zeros.
-#[derive(Clone, Copy)]
-pub enum Bounds {
-    Are(Span),
+// Why a field gives no bounds: it does not read; or it reads, but not as a span: the bounds fall, a prefix has bits past its
+// length, or a mask is not ones and then zeros.
+#[derive(Clone, Copy, PartialEq, Eq)]
+pub enum Unfit {
     Unread,
     NoSpan,
 }
@@ -32,73 +24,57 @@ pub enum Bounds {
 fn is_plain(text: &[u8]) -> bool
     ensures { result ≡ plain text.now }
 {
-    if text.len() == 0 {
-        return false;
+    match text {
+        [] => false,
+        [_] => true,
+        [first, ..] => *first != b'0',
     }
-    if text.len() == 1 {
-        return true;
-    }
-    text[0] != b'0'
 }
 
 // A decimal number up to a largest.
-pub fn decimal(text: &[u8], most: u32) -> Number
+pub fn decimal(text: &[u8], most: u32) -> Option<u32>
     ensures { result ≡ decimal_of most text.now }
 {
-    if is_plain(text) {
-        let mut value: u32 = 0;
-        let mut i: usize = 0;
-        while i < text.len() {
-            let digit = text[i];
-            i += 1;
-            if digit < b'0' {
-                return Number::Unread;
-            }
-            if b'9' < digit {
-                return Number::Unread;
-            }
-            let longer = (value as u64) * 10 + ((digit - b'0') as u64);
-            if (most as u64) < longer {
-                return Number::Unread;
-            }
-            value = longer as u32;
-        }
-        return Number::Is(value);
+    if !is_plain(text) {
+        return None;
     }
-    Number::Unread
+    let mut value: u32 = 0;
+    for byte in text {
+        let digit = match byte {
+            b'0'..=b'9' => u32::from(*byte - b'0'),
+            _ => return None,
+        };
+        value = value.checked_mul(10)?.checked_add(digit)?;
+    }
+    if value <= most { Some(value) } else { None }
 }
 
 // Part n of a text, counted from 0, as a decimal number up to a largest.
-pub fn decimal_part(text: &[u8], separator: u8, n: usize, most: u32) -> Number
+#[tactic(auto, using(parts::proofs::Parting::shown_bytes, parts::proofs::Parting::piece_bytes))]
+pub fn decimal_part(text: &[u8], separator: u8, n: usize, most: u32) -> Option<u32>
     ensures { result ≡ decimal_of most (part separator text.now n) }
 {
     decimal(parts::part(text, separator, n), most)
 }
 
 // One number as bounds.
-pub fn single(number: Number) -> Bounds
+pub fn single(number: Option<u32>) -> Result<Span, Unfit>
     ensures { result ≡ single number }
 {
-    let Number::Is(n) = number else {
-        return Bounds::Unread;
-    };
-    Bounds::Are(Span { low: n, high: n })
+    let n = number.ok_or(Unfit::Unread)?;
+    Ok(Span { low: n, high: n })
 }
 
 // Two numbers as bounds.
-pub fn range(first: Number, second: Number) -> Bounds
+pub fn range(first: Option<u32>, second: Option<u32>) -> Result<Span, Unfit>
     ensures { result ≡ range first second }
 {
-    let Number::Is(low) = first else {
-        return Bounds::Unread;
-    };
-    let Number::Is(high) = second else {
-        return Bounds::Unread;
-    };
+    let low = first.ok_or(Unfit::Unread)?;
+    let high = second.ok_or(Unfit::Unread)?;
     if low <= high {
-        Bounds::Are(Span { low, high })
+        Ok(Span { low, high })
     } else {
-        Bounds::NoSpan
+        Err(Unfit::NoSpan)
     }
 }
 
@@ -110,11 +86,12 @@ pub fn is_star(text: &[u8]) -> bool
 }
 
 // `*`, a number up to a largest, or two of them parted by a minus sign.
-pub fn interval(text: &[u8], most: u32) -> Bounds
+#[tactic(auto, unfolding(crate::specs::Intervals::interval_of))]
+pub fn interval(text: &[u8], most: u32) -> Result<Span, Unfit>
     ensures { result ≡ interval_of most text.now }
 {
     if is_star(text) {
-        return Bounds::Are(Span { low: 0, high: most });
+        return Ok(Span { low: 0, high: most });
     }
     if parts::count(text, b'-') == 2 {
         return range(

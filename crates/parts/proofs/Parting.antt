@@ -1,5 +1,5 @@
 -- Laws of the parts between separators, for every separator. Assumes nothing.
-use mathlib.Core.Bool.{Bool, true, false, cond}
+use mathlib.Core.Bool.{Bool, true, false, cond, not}
 use mathlib.Core.List.{List, [], ◌∷◌}
 use mathlib.Core.Path.{◌≡◌, refl, ap, sym, ◌∙◌}
 use native.Mathlib.Nat.{le_of_suc-le-suc, not-suc-le-zero}
@@ -8,9 +8,13 @@ use native.Mathlib.Omega.{arith}
 use Prim.Native.Nat.{ℕ, zero, suc, ◌+◌, ◌-◌, ◌≤◌, ◌<◌, min}
 use borrow.Author.Tests.{eq-eqb, ne_eqb}
 use denote.Ref.{Bor}
-use lib.Dec.{eqb}
+use lib.Dec.{eqb, ltb}
 use lib.ListN.{length, take, drop, get_or, length-drop, length-take, drop_of_length-le}
 use lib.Seq.{drop-cons, drop-drop}
+use Rattle.std.specs.Prelude.{Some, None, unwrap_or}
+use Rattle.std.specs.List.{position, position_or_len, count_by}
+use Rattle.std.proofs.lemmas.Bool.{ltb-false}
+use Rattle.std.proofs.lemmas.List.Sums.{sum_by-cons, prefix_len-le-length}
 use Rattle.contracts.specs.Answers.{Seen, seen}
 use Rattle.parts.specs.Parts.{onto, parts, part, Piece, pieces_from, piece, shown}
 
@@ -170,3 +174,32 @@ shown_bytes s r p e = ap (λ (x : Seen). x.1) e
 
 pub part_bytes : (sep n : ℕ) (s r : Bor (List ℕ)) → seen r ≡ shown s (piece sep s.now n) → r.now ≡ part sep s.now n
 part_bytes sep n s r e = shown_bytes s r (piece sep s.now n) e ∙ piece_bytes sep s.now n
+
+-- the first part ends at the first separator, or with the text
+first_length : (sep : ℕ) (xs : List ℕ) → position_or_len (λ x. eqb x sep) xs ≡ length (part sep xs 0)
+first_length sep [] = refl
+first_length sep (x ∷ xs) = go (eqb x sep) (parts sep xs) (some_part sep xs) (first_length sep xs)
+  where
+    go : (b : Bool) (ps : List (List ℕ)) → 0 < length ps → position_or_len (λ y. eqb y sep) xs ≡ length (get_or ps 0 [])
+        → cond (not b) (1 + position_or_len (λ y. eqb y sep) xs) 0 ≡ length (get_or (cond b ([] ∷ parts sep xs) (onto x ps)) 0 [])
+    go true ps h e = refl
+    go false [] h e = absurd (not-suc-le-zero h)
+    go false (p ∷ ps) h e = omega (arith, e)
+
+pub first_ends : (sep : ℕ) (xs : List ℕ) → unwrap_or (position (λ x. eqb x sep) xs) (length xs) ≡ length (part sep xs 0)
+first_ends sep xs = go (position_or_len (λ x. eqb x sep) xs) (ltb (position_or_len (λ x. eqb x sep) xs) (length xs)) (prefix_len-le-length (λ x. not (eqb x sep)) xs) refl ∙ first_length sep xs
+  where
+    go : (k : ℕ) (b : Bool) → (k ≤ length xs) → ltb k (length xs) ≡ b → unwrap_or (cond b (Some k) None) (length xs) ≡ k
+    go k true most e = refl
+    go k false most e = let past = ltb-false k (length xs) e in omega arith
+
+-- there is one part more than separators
+pub parts_count : (sep : ℕ) (xs : List ℕ) → count_by (λ x. eqb x sep) xs + 1 ≡ length (parts sep xs)
+parts_count sep [] = refl
+parts_count sep (x ∷ xs) = rw (sum_by-cons (λ y. cond (eqb y sep) 1 0) x xs) (go (eqb x sep) (parts sep xs) (some_part sep xs) (parts_count sep xs))
+  where
+    go : (b : Bool) (ps : List (List ℕ)) → 0 < length ps → count_by (λ y. eqb y sep) xs + 1 ≡ length ps
+        → (cond b 1 0 + count_by (λ y. eqb y sep) xs) + 1 ≡ length (cond b ([] ∷ ps) (onto x ps))
+    go true ps h e = omega (arith, e)
+    go false [] h e = absurd (not-suc-le-zero h)
+    go false (p ∷ ps) h e = omega (arith, e)

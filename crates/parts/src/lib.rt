@@ -4,7 +4,7 @@
 
 #![tactic(auto)]
 
-ghost use Rattle.std.specs.Prelude.{◌≡◌, ◌+◌, ◌≤◌, length, drop};
+ghost use Rattle.std.specs.Prelude.{◌≡◌, ◌==◌, ◌+◌, ◌≤◌, length, drop, position};
 ghost use Rattle.parts.specs.Parts.{parts, part, piece, shown, same};
 ghost use Rattle.contracts.specs.Answers.{seen};
 ghost use Rattle.parts.specs.Fields.{field_piece};
@@ -12,35 +12,36 @@ ghost use Rattle.parts.specs.Fields.{field_piece};
 // The byte between fields.
 pub const TAB: u8 = b'\t';
 
+// The place of the first separator, if there is one.
+fn first(text: &[u8], separator: u8) -> Option<usize>
+    ensures { result ≡ position (λ x. x == separator) text.now }
+{
+    text.iter().position(|byte| *byte == separator)
+}
+
 // Where the part that starts at a place ends: at the next separator, or with the text.
 fn part_end(text: &[u8], separator: u8, start: usize) -> usize
     requires { start ≤ length text.now }
     ensures { (result ≤ length text.now) × (result ≡ start + length (part separator (drop start text.now) 0)) }
 {
-    let mut end = start;
-    while end < text.len() {
-        if text[end] == separator {
-            return end;
-        }
-        end += 1;
+    match first(&text[start..], separator) {
+        Some(length) => start + length,
+        None => text.len(),
     }
-    end
 }
 
-// Part n, counted from 0, as a part of the text; where there are fewer, the empty part at the end.
+// Part n, counted from 0, as a part of the text; where there are fewer, the empty part at the end. No `split(..).nth(n)`: of the parts
+// of `split` std says which bytes they are, and not where in the text they stand.
 pub fn part(text: &[u8], separator: u8, n: usize) -> &[u8]
     ensures { seen result ≡ shown text.entry (piece separator text.now n) }
 {
-    let mut start: usize = 0;
-    let mut passed: usize = 0;
-    while passed < n {
+    let mut start = 0;
+    for _ in 0..n {
         let end = part_end(text, separator, start);
-        if end < text.len() {
-            start = end + 1;
-            passed += 1;
-        } else {
+        if end == text.len() {
             return &text[end..end];
         }
+        start = end + 1;
     }
     let end = part_end(text, separator, start);
     &text[start..end]
@@ -61,31 +62,12 @@ pub fn field(line: &[u8], n: usize) -> &[u8]
 pub fn count(text: &[u8], separator: u8) -> usize
     ensures { result ≡ length (parts separator text.now) }
 {
-    let mut found: usize = 1;
-    let mut i: usize = 0;
-    while i < text.len() {
-        let byte = text[i];
-        i += 1;
-        if byte == separator {
-            found += 1;
-        }
-    }
-    found
+    text.iter().filter(|byte| **byte == separator).count() + 1
 }
 
 // Whether both hold the same bytes.
 pub fn same(text: &[u8], other: &[u8]) -> bool
     ensures { result ≡ same text.now other.now }
 {
-    if text.len() != other.len() {
-        return false;
-    }
-    let mut i: usize = 0;
-    while i < text.len() {
-        if text[i] != other[i] {
-            return false;
-        }
-        i += 1;
-    }
-    true
+    text == other
 }

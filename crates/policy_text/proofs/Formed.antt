@@ -4,6 +4,7 @@ use mathlib.Core.List.{List, [], ◌∷◌, map, map-append}
 use mathlib.Core.Option.{some}
 use mathlib.Core.Path.{◌≡◌, refl, ap, sym, subst, ◌∙◌}
 use native.Mathlib.Omega.{arith}
+use Rattle.std.specs.Prelude.{None, Some, Result, Ok, Err}
 use Prim.Native.Nat.{ℕ, ◌≤◌, ◌<◌}
 use lib.Dec.{T}
 use lib.ListN.{length, length-append}
@@ -20,18 +21,18 @@ use Rattle.blocks.specs.declared.Block.{Block}
 use Rattle.sets.specs.Empty.{empty_policy, PolicyZeroPast}
 use Rattle.sets.specs.Inner.{in_form}
 use Rattle.sets.specs.Listed.{policy_set}
-use Rattle.sets.specs.Vocabulary.{directive_of, exception_of, policy_set_of}
+use Rattle.sets.specs.Vocabulary.{directive_of, exception_of, policy_set_of, refused_of}
 use Rattle.sets.specs.declared.Directive.{Directive}
 use Rattle.sets.specs.declared.Exception.{Exception}
+use Rattle.sets.specs.declared.Policy.{Policy}
 use Rattle.sets.specs.declared.Refusal.{Refusal}
 use Rattle.sets.proofs.Padding.{nothing_asked_lem, policy_zero, policy_unrefused, all_more}
-use Rattle.texts.specs.Texts.{goes, stops, refusal}
+use Rattle.texts.specs.Texts.{goes, stops}
 use Rattle.texts.proofs.Reading.{Keeps, kept, answered}
-use Rattle.policy_text.specs.PolicyTexts.{policy_line, Asked, nothing_asked, nearest, ask, but, on_policy_line, said_policy, all_asked, none_asked, read_policy}
-use Rattle.policy_text.specs.declared.PolicyLine.TheVariants.{Skipped, Ask, But, Not}
-use Rattle.policy_text.specs.declared.PolicyLine.{PolicyLine}
-use Rattle.policy_text.specs.declared.PolicyRead.{PolicyRead}
-use Rattle.policy_text.proofs.PolicyReading.{SaidRight, said_right}
+use Rattle.policy_text.specs.PolicyTexts.{policy_line, Asked, nothing_asked, nearest, ask, but, on_policy_line, said_policy}
+use Rattle.policy_text.specs.PolicyTexts.{all_asked, none_asked, read_policy, policy_told}
+use Rattle.policy_text.specs.declared.PolicyLine.TheVariants.{Ask, But}
+use Rattle.policy_text.proofs.PolicyReading.{Line, SaidRight, said_right}
 
 -- what every line keeps: not too many records, all in form, and no exception names a directive that is still to come
 record Kept (s : Asked) : Type 0 where
@@ -42,7 +43,8 @@ record Kept (s : Asked) : Type 0 where
   pub named_so_far : last_named 0 (map exception_of s.exceptions) ≤ length s.directives
 
 -- the directive whose number is their count is the nearest
-nearest_numbered : (ds : List Directive) → 0 < length ds → (d : Rule) × (numbered (map directive_of ds) (length ds) ≡ some d) × (d.block ≡ block_of (nearest ds))
+nearest_numbered : (ds : List Directive) → 0 < length ds
+    → (d : Rule) × (numbered (map directive_of ds) (length ds) ≡ some d) × (d.block ≡ block_of (nearest ds))
 unfolding numbered
 nearest_numbered [] h = absurd (omega arith)
 nearest_numbered (d ∷ []) h = (directive_of d, refl, refl)
@@ -92,18 +94,18 @@ module _ (s : Asked) where
   keeps : (line : List ℕ) → Kept s → Keeps Kept (said_policy s line)
   keeps line h = go (policy_line asked excepted above line) (said_right asked excepted above line)
     where
-      go : (o : PolicyLine) → SaidRight asked excepted above o → Keeps Kept (on_policy_line o (goes s) (λ d. goes (ask s d)) (λ b. goes (but s b)) stops)
-      go Skipped e = h
-      go (Ask d) e = kept_ask s d h e.0 e.1
-      go (But b) e = kept_but s b h e.0 e.1 e.2 e.3
-      go (Not number field) e = tt
+      go : (o : Line) → SaidRight asked excepted above o → Keeps Kept (on_policy_line o (goes s) (λ d. goes (ask s d)) (λ b. goes (but s b)) stops)
+      go (Ok None) e = h
+      go (Ok (Some (Ask d))) e = kept_ask s d h e.0 e.1
+      go (Ok (Some (But b))) e = kept_but s b h e.0 e.1 e.2 e.3
+      go (Err r) e = tt
 
 -- 14 never applies to what was read, and it is zero past its counts
-abbrev Right : PolicyRead → Type 0
-Right r = (refuse_policy fields (policy_set_of r.policy) ≡ unrefused) × PolicyZeroPast r.policy
+abbrev Right : Result Policy Refusal → Type 0
+Right r = (refuse_policy fields (policy_set_of (policy_told r)) ≡ unrefused) × PolicyZeroPast (policy_told r)
 
-right : (s : Asked) → Kept s → (r : Refusal) → Right (record { refusal = r; policy = policy_set s.directives s.exceptions })
-right s h r = (
+right : (s : Asked) → Kept s → Right (Ok (policy_set s.directives s.exceptions))
+right s h = (
   policy_unrefused s.directives s.exceptions h.few_asked h.few_excepted h.asked_in_form (passed _ h.excepted_in_form),
   policy_zero s.directives s.exceptions h.few_asked h.few_excepted,
 )
@@ -114,19 +116,18 @@ none_kept = record { few_asked = omega arith; few_excepted = omega arith; asked_
 
 read_right : (text : List ℕ) → Right (read_policy text)
 unfolding read_policy
-read_right text =
-    kept said_policy all_asked none_asked Kept Right keeps (λ s h. right s h (refusal 0 0 0)) (λ s r. right nothing_asked none_kept r) nothing_asked text none_kept
+read_right text = kept said_policy all_asked none_asked Kept Right keeps right (λ s r. right nothing_asked none_kept) nothing_asked text none_kept
 
-pub policy_read_in_form : (text : List ℕ) → refuse_policy fields (policy_set_of (read_policy text).policy) ≡ unrefused
+pub policy_read_in_form : (text : List ℕ) → refuse_policy fields (policy_set_of (policy_told (read_policy text))) ≡ unrefused
 policy_read_in_form text = (read_right text).0
 
-pub policy_read_zero_past : (text : List ℕ) → PolicyZeroPast (read_policy text).policy
+pub policy_read_zero_past : (text : List ℕ) → PolicyZeroPast (policy_told (read_policy text))
 policy_read_zero_past text = (read_right text).1
 
 -- a refused reading hands back the empty set
-abbrev Empty : PolicyRead → Type 0
-Empty r = (r.refusal.number ≡ 0 → ⊥) → r.policy ≡ empty_policy
+abbrev Empty : Result Policy Refusal → Type 0
+Empty r = ((refused_of r).number ≡ 0 → ⊥) → policy_told r ≡ empty_policy
 
-pub policy_refused_empty : (text : List ℕ) → ((read_policy text).refusal.number ≡ 0 → ⊥) → (read_policy text).policy ≡ empty_policy
+pub policy_refused_empty : (text : List ℕ) → ((refused_of (read_policy text)).number ≡ 0 → ⊥) → policy_told (read_policy text) ≡ empty_policy
 unfolding read_policy
 policy_refused_empty text = answered said_policy all_asked none_asked Empty (λ s some. absurd (some refl)) (λ s r some. nothing_asked_lem) nothing_asked text

@@ -3,6 +3,7 @@ use mathlib.Core.Bool.{Bool, true, false, cond, not}
 use mathlib.Core.List.{List, [], ◌∷◌, ◌++◌}
 use mathlib.Core.Path.{◌≡◌, refl, ap, sym, subst, ◌∙◌}
 use native.Mathlib.Omega.{arith}
+use Rattle.std.specs.Prelude.{Option, None, Some, Result, Ok, Err}
 use Prim.Native.Nat.{ℕ, ◌+◌, ◌≤◌, ◌<◌}
 use borrow.Author.Tests.{leb-false, eqb-false}
 use denote.Ref.{Bor}
@@ -24,67 +25,77 @@ use Rattle.sets.specs.Vocabulary.{directive_of}
 use Rattle.sets.specs.Listed.{padded, policy_set}
 use Rattle.sets.specs.declared.Directive.{Directive}
 use Rattle.sets.specs.declared.Policy.{Policy}
+use Rattle.sets.specs.declared.Reason.TheVariants.{UnknownWord, FieldCount, NoDirective, OutsideDirective, Full}
 use Rattle.sets.proofs.Padding.{padded_set}
 use Rattle.lines.specs.Reader.{line_at, line_from, cursor_after, cursor_behind}
 use Rattle.lines.specs.declared.Cursor.{Cursor}
 use Rattle.lines.proofs.Stepping.{found_bytes, found_after}
 use Rattle.texts.specs.Texts.{most_bytes, refusal, lines_of, Said, goes, stops, read_from}
 use Rattle.texts.proofs.Reading.{Reading, begun, stepped, halted, finished}
+use Rattle.records.specs.Readers.{refused}
 use Rattle.records.specs.Records.{skipped, named, read_block, on_block, read_record, on_record}
-use Rattle.records.specs.declared.BlockRead.TheVariants as block
-use Rattle.records.specs.declared.BlockRead.{BlockRead}
-use Rattle.records.specs.declared.RecordRead.TheVariants as common
-use Rattle.records.specs.declared.RecordRead.{RecordRead}
+use Rattle.records.specs.declared.FieldRefusal.{FieldRefusal}
+use Rattle.records.specs.declared.Record.{Record}
 use Rattle.records.proofs.Forming.{ReadInForm, read_block_in_form, RecordInForm, read_record_in_form}
 use Rattle.policy_text.specs.Inner.{ask_added, but_added}
-use Rattle.policy_text.specs.PolicyTexts.{but_fields, ask_line, but_line, policy_line}
+use Rattle.policy_text.specs.PolicyTexts.{but_fields, ask_line, but_line, says, policy_line}
 use Rattle.policy_text.specs.PolicyTexts.{Asked, nothing_asked, nearest, ask, but, on_policy_line, said_policy, all_asked, none_asked}
-use Rattle.policy_text.specs.declared.PolicyLine.TheVariants.{Skipped, Ask, But, Not}
+use Rattle.policy_text.specs.declared.PolicyLine.TheVariants.{Ask, But}
 use Rattle.policy_text.specs.declared.PolicyLine.{PolicyLine}
 
+-- what a line says
+abbrev pub Line : Type 0
+Line = Result (Option PolicyLine) FieldRefusal
+
 -- what a line says came where there was room for it and is in form; an exception stands below a directive and lies inside the nearest
-abbrev pub SaidRight : ℕ → ℕ → Block → PolicyLine → Type 0
-SaidRight asked excepted above Skipped = Unit {0}
-SaidRight asked excepted above (Ask d) = (asked < most_directives) × (in_form (directive_of d) ≡ true)
-SaidRight asked excepted above (But b) =
+abbrev pub SaidRight : ℕ → ℕ → Block → Line → Type 0
+SaidRight asked excepted above (Ok None) = Unit {0}
+SaidRight asked excepted above (Ok (Some (Ask d))) = (asked < most_directives) × (in_form (directive_of d) ≡ true)
+SaidRight asked excepted above (Ok (Some (But b))) =
     (0 < asked) × (excepted < most_exceptions) × (inside (block_of b) (block_of above) ≡ true) × (block_in_form fields (block_of b) ≡ true)
-SaidRight asked excepted above (Not number field) = Unit {0}
+SaidRight asked excepted above (Err r) = Unit {0}
 
 module _ (asked excepted : ℕ) (above : Block) (line : List ℕ) where
-  ask_right : SaidRight asked excepted above (ask_line asked line)
+  ask_right : SaidRight asked excepted above (says Ask (ask_line asked line))
   unfolding ask_line
   ask_right = go (read_record (leb most_directives asked) line) (read_record_in_form (leb most_directives asked) line)
     where
-      go : (x : RecordRead) → RecordInForm (leb most_directives asked) x
-          → SaidRight asked excepted above (on_record x Not (λ e d. Ask (record { action = e; block = d })))
-      go (common.Not number field) h = tt
-      go (common.Are e d) h = (leb-false most_directives asked h.0, h.1)
+      go : (x : Result Record FieldRefusal) → RecordInForm (leb most_directives asked) x
+          → SaidRight asked excepted above (says Ask (on_record x Err (λ r. Ok (record { action = r.action; block = r.block }))))
+      go (Err r) h = tt
+      go (Ok r) h = (leb-false most_directives asked h.0, h.1)
 
-  but_right : SaidRight asked excepted above (but_line asked excepted above line)
+  but_right : SaidRight asked excepted above (says But (but_line asked excepted above line))
   unfolding but_line but_fields
   but_right =
       go (not (eqb (field_count line) (1 + sizes.field_count))) (eqb asked 0) refl (leb most_exceptions excepted) refl
       (read_block line 2) (read_block_in_form line 2)
     where
       lies : (d : Block) (b : Bool) → inside (block_of d) (block_of above) ≡ b → eqb asked 0 ≡ false → excepted < most_exceptions
-          → block_in_form fields (block_of d) ≡ true → SaidRight asked excepted above (cond b (But d) (Not 12 0))
+          → block_in_form fields (block_of d) ≡ true → SaidRight asked excepted above (says But (cond b (Ok d) (Err (refused OutsideDirective 0))))
       lies d true e z h f = (let some = eqb-false asked 0 z in omega arith, h, e, f)
       lies d false e z h f = tt
 
-      go : (a z : Bool) → eqb asked 0 ≡ z → (b : Bool) → leb most_exceptions excepted ≡ b → (y : BlockRead) → ReadInForm y
+      go : (a z : Bool) → eqb asked 0 ≡ z → (b : Bool) → leb most_exceptions excepted ≡ b → (y : Result Block FieldRefusal) → ReadInForm y
           → SaidRight asked excepted above
-          (cond a (Not 4 0) (cond z (Not 11 0) (cond b (Not 13 0) (on_block y Not (λ d. cond (inside (block_of d) (block_of above)) (But d) (Not 12 0))))))
+          (says But
+          (cond a (Err (refused FieldCount 0))
+          (cond z (Err (refused NoDirective 0))
+          (cond b (Err (refused Full 0))
+          (on_block y Err (λ d. cond (inside (block_of d) (block_of above)) (Ok d) (Err (refused OutsideDirective 0))))))))
       go true z e b h y f = tt
       go false true e b h y f = tt
       go false false e true h y f = tt
-      go false false e false h (block.Not number field) f = tt
-      go false false e false h (block.Is d) f = lies d (inside (block_of d) (block_of above)) refl e (leb-false most_exceptions excepted h) f
+      go false false e false h (Err r) f = tt
+      go false false e false h (Ok d) f = lies d (inside (block_of d) (block_of above)) refl e (leb-false most_exceptions excepted h) f
 
   pub said_right : SaidRight asked excepted above (policy_line asked excepted above line)
   unfolding policy_line
   said_right = go (skipped line) (named (bytes "ask") line) (named (bytes "but") line)
     where
-      go : (a b c : Bool) → SaidRight asked excepted above (cond a Skipped (cond b (ask_line asked line) (cond c (but_line asked excepted above line) (Not 3 1))))
+      go : (a b c : Bool)
+          → SaidRight asked excepted above
+          (cond a (Ok None) (cond b (says Ask (ask_line asked line)) (cond c (says But (but_line asked excepted above line)) (Err (refused UnknownWord 1)))))
       go true b c = tt
       go false true c = ask_right
       go false false true = but_right
@@ -136,33 +147,33 @@ read_none t p e =
     record { s = nothing_asked; few = omega arith; is = e; above_is = refl; reading = begun said_policy all_asked none_asked nothing_asked t }
 
 pub read_all : (t : List ℕ) (c : Cursor) (p : Policy) (above : Block) (h : Read t c p above) → length t ≤ c.at
-    → record { refusal = refusal 0 0 0; policy = p } ≡ read_from said_policy all_asked none_asked 1 nothing_asked (lines_of t)
+    → Ok p ≡ read_from said_policy all_asked none_asked 1 nothing_asked (lines_of t)
 read_all t c p above h out =
-    (λ i. record { refusal = refusal 0 0 0; policy = h.is i })
+    ap Ok h.is
     ∙ sym (finished said_policy all_asked none_asked says_nothing nothing_asked t c.at c.line h.s h.reading out)
 
 -- one turn: the line that was found at the cursor says o
 module _ (text : Bor (List ℕ)) (c : Cursor) (p : Policy) (above : Block) (h : Read text.now c p above) (fits : length text.now ≤ most_bytes)
     (inside : c.at < length text.now) (line : Bor (List ℕ)) (found : seen line ≡ shown text (line_from text.now c.at))
-    (o : PolicyLine) (said : o ≡ policy_line p.directive_count p.exception_count above line.now) where
+    (o : Line) (said : o ≡ policy_line p.directive_count p.exception_count above line.now) where
   abbrev t : List ℕ
   t = text.now
 
   said_there : o ≡ policy_line p.directive_count p.exception_count above (line_at t c.at)
   said_there = said ∙ ap (policy_line p.directive_count p.exception_count above) (found_bytes text line c found)
 
-  abbrev then : PolicyLine → Said Asked
+  abbrev then : Line → Said Asked
   then x = on_policy_line x (goes h.s) (λ d. goes (ask h.s d)) (λ b. goes (but h.s b)) stops
 
-  says : (o' : PolicyLine) → o ≡ o' → said_policy h.s (line_at t c.at) ≡ then o'
-  says o' e =
+  reads : (o' : Line) → o ≡ o' → said_policy h.s (line_at t c.at) ≡ then o'
+  reads o' e =
       ap then
       (ap (λ (x : Policy). policy_line x.directive_count x.exception_count (nearest h.s.directives) (line_at t c.at)) (sym h.is)
       ∙ ap (λ (b : Block). policy_line p.directive_count p.exception_count b (line_at t c.at)) (sym h.above_is)
       ∙ sym said_there
       ∙ e)
 
-  pub right : (o' : PolicyLine) → o ≡ o' → SaidRight p.directive_count p.exception_count above o'
+  pub right : (o' : Line) → o ≡ o' → SaidRight p.directive_count p.exception_count above o'
   right o' e =
       subst (SaidRight p.directive_count p.exception_count above) (sym said_there ∙ e)
       (said_right p.directive_count p.exception_count above (line_at t c.at))
@@ -183,30 +194,33 @@ module _ (text : Bor (List ℕ)) (c : Cursor) (p : Policy) (above : Block) (h : 
       let moved : c' ≡ cursor_after t c = found_after text line c found inside (omega arith) c' q in
       stepped said_policy all_asked none_asked says_nothing nothing_asked t c.at c.line h.s h.reading fits inside c' moved s e
 
-  pub read_skip : (c' : Cursor) → c' ≡ cursor_behind c (length line.now) → o ≡ Skipped → Read t c' p above
-  read_skip c' q e = record { s = h.s; few = h.few; is = h.is; above_is = h.above_is; reading = read_on c' q h.s (says Skipped e) }
+  pub read_skip : (c' : Cursor) → c' ≡ cursor_behind c (length line.now) → o ≡ Ok None → Read t c' p above
+  read_skip c' q e = record { s = h.s; few = h.few; is = h.is; above_is = h.above_is; reading = read_on c' q h.s (reads (Ok None) e) }
 
   pub read_ask : (c' : Cursor) (p' : Policy) (d : Directive)
-      → c' ≡ cursor_behind c (length line.now) → p' ≡ ask_added p d → o ≡ Ask d → Read t c' p' d.block
+      → c' ≡ cursor_behind c (length line.now) → p' ≡ ask_added p d → o ≡ Ok (Some (Ask d)) → Read t c' p' d.block
   read_ask c' p' d q w e =
-      let spare = (right (Ask d) e).0 in
+      let spare = (right (Ok (Some (Ask d))) e).0 in
       record {
         s = ask h.s d;
         few = omega (arith, asked_is, spare, length-append h.s.directives (d ∷ []));
         is = w ∙ ap (λ (x : Policy). ask_added x d) h.is ∙ ask_is h.s d (omega (arith, asked_is, spare));
         above_is = sym (nearest_last h.s.directives d);
-        reading = read_on c' q (ask h.s d) (says (Ask d) e);
+        reading = read_on c' q (ask h.s d) (reads (Ok (Some (Ask d))) e);
       }
 
-  pub read_but : (c' : Cursor) (p' : Policy) (b : Block) → c' ≡ cursor_behind c (length line.now) → p' ≡ but_added p b → o ≡ But b → Read t c' p' above
+  pub read_but : (c' : Cursor) (p' : Policy) (b : Block)
+      → c' ≡ cursor_behind c (length line.now) → p' ≡ but_added p b → o ≡ Ok (Some (But b)) → Read t c' p' above
   read_but c' p' b q w e =
       record {
         s = but h.s b;
         few = h.few;
-        is = w ∙ ap (λ (x : Policy). but_added x b) h.is ∙ but_is h.s b (omega (arith, excepted_is, (right (But b) e).1));
+        is = w ∙ ap (λ (x : Policy). but_added x b) h.is ∙ but_is h.s b (omega (arith, excepted_is, (right (Ok (Some (But b))) e).1));
         above_is = h.above_is;
-        reading = read_on c' q (but h.s b) (says (But b) e);
+        reading = read_on c' q (but h.s b) (reads (Ok (Some (But b))) e);
       }
 
-  pub read_stop : (k f : ℕ) → o ≡ Not k f → read_from said_policy all_asked none_asked 1 nothing_asked (lines_of t) ≡ none_asked nothing_asked (refusal k c.line f)
-  read_stop k f e = halted said_policy all_asked none_asked says_nothing nothing_asked t c.at c.line h.s h.reading inside k f (says (Not k f) e)
+  pub read_stop : (r : FieldRefusal) → o ≡ Err r
+      → read_from said_policy all_asked none_asked 1 nothing_asked (lines_of t) ≡ none_asked nothing_asked (refusal r.reason c.line r.field)
+  read_stop r e =
+      halted said_policy all_asked none_asked says_nothing nothing_asked t c.at c.line h.s h.reading inside r.reason r.field (reads (Err r) e)

@@ -1,6 +1,6 @@
 // Reading a policy. `read_policy` answers for every text: the directives in the order of their lines, each exception beside the
-// nearest directive above it, or the first refusal by number, line and field and the empty set. Its contract says that the answer is
-// what specs/PolicyTexts defines for the bytes. What was read is in form and zero past its counts (proofs/Formed).
+// nearest directive above it, or the first refusal by reason, line and field. Its contract says that the answer is what
+// specs/PolicyTexts defines for the bytes. What was read is in form and zero past its counts (proofs/Formed).
 
 #![tactic(auto)]
 
@@ -13,49 +13,33 @@ ghost use Rattle.policy_text.specs.PolicyTexts.{but_fields, ask_line, but_line, 
 use blocks::{Block, FIELDS};
 use lines::Cursor;
 use parts::TAB;
-use records::{BlockRead, RecordRead};
-use sets::{Directive, Exception, MOST_DIRECTIVES, MOST_EXCEPTIONS, Policy, Refusal, ZERO_BLOCK};
+use records::{FieldRefusal, Record};
+use sets::{
+    Directive, Exception, MOST_DIRECTIVES, MOST_EXCEPTIONS, Policy, Reason, Refusal, ZERO_BLOCK,
+};
 
 // The fields of a `but` line: its word, and those of a block.
 const BUT_FIELDS: usize = 1 + FIELDS;
 
-// What reading hands back: the refusal, all zeros if there is none, and the policy, an empty one if there is one.
-#[derive(Clone, Copy)]
-pub struct PolicyRead {
-    pub refusal: Refusal,
-    pub policy: Policy,
-}
-
-// What a line says: nothing, a directive, an exception's block, or the number and the field of a refusal.
+// What a line that is not skipped says: a directive, or an exception's block.
 #[derive(Clone, Copy)]
 enum PolicyLine {
-    Skipped,
     Ask(Directive),
     But(Block),
-    Not(u32, u32),
 }
 
 // What a policy text means.
-pub fn read_policy(text: &[u8]) -> PolicyRead
+#[tactic(auto, using(texts::proofs::Reading::unrefused_fits), unfolding(crate::specs::PolicyTexts::read_policy))]
+pub fn read_policy(text: &[u8]) -> Result<Policy, Refusal>
     ensures { result ≡ read_policy text.now }
 {
-    let refusal = texts::refuse_text(text);
-    if refusal.number == 0 {
-        return read_lines(text);
-    }
-    refuse(refusal)
+    texts::refuse_text(text)?;
+    read_lines(text)
 }
 
-// The answer to a refusal.
-fn refuse(refusal: Refusal) -> PolicyRead
-    ensures { result ≡ none_asked nothing_asked refusal }
-{
-    let policy = Policy::empty();
-    PolicyRead { refusal, policy }
-}
-
-// The lines of a text, one after another.
-fn read_lines(text: &[u8]) -> PolicyRead
+// The lines of a text, one after another. The loop goes from cursor to cursor, as the document reads, and is this reader's own, though
+// the rule table's is like it: the laws of proofs/PolicyReading and the wrong program about lines left out are about it.
+fn read_lines(text: &[u8]) -> Result<Policy, Refusal>
     requires { length text.now ≤ most_bytes }
     ensures { result ≡ read_from said_policy all_asked none_asked 1 nothing_asked (lines_of text.now) }
 {
@@ -70,109 +54,99 @@ fn read_lines(text: &[u8]) -> PolicyRead
         let said = policy_line(found, asked, excepted, above);
         cursor = lines::behind(cursor.at, cursor.line, found.len());
         match said {
-            PolicyLine::Skipped => {}
-            PolicyLine::Ask(directive) => {
+            Ok(None) => {}
+            Ok(Some(PolicyLine::Ask(directive))) => {
                 above = directive.block;
-                policy = add_directive(policy, directive);
+                add_directive(&mut policy, directive);
             }
-            PolicyLine::But(block) => {
-                policy = add_exception(policy, block);
-            }
-            PolicyLine::Not(number, field) => {
-                return refuse(Refusal {
-                    number,
-                    line,
-                    field,
-                });
-            }
+            Ok(Some(PolicyLine::But(block))) => add_exception(&mut policy, block),
+            Err(refused) => return Err(refused.at_line(line)),
         }
     }
-    let refusal = Refusal::NONE;
-    PolicyRead { refusal, policy }
+    Ok(policy)
 }
 
 // What a line says, after so many directives and exceptions, under the nearest directive above.
-fn policy_line(line: &[u8], asked: usize, excepted: usize, above: Block) -> PolicyLine
+#[tactic(auto, unfolding(crate::specs::PolicyTexts::policy_line))]
+fn policy_line(
+    line: &[u8],
+    asked: usize,
+    excepted: usize,
+    above: Block,
+) -> Result<Option<PolicyLine>, FieldRefusal>
     ensures { result ≡ policy_line asked excepted above line.now }
 {
     if records::is_skipped(line) {
-        return PolicyLine::Skipped;
+        return Ok(None);
     }
     if records::is_named(line, b"ask") {
-        return ask_line(line, asked);
+        let directive = ask_line(line, asked)?;
+        return Ok(Some(PolicyLine::Ask(directive)));
     }
     if records::is_named(line, b"but") {
-        return but_line(line, asked, excepted, above);
+        let block = but_line(line, asked, excepted, above)?;
+        return Ok(Some(PolicyLine::But(block)));
     }
-    PolicyLine::Not(3, 1)
+    Err(FieldRefusal {
+        reason: Reason::UnknownWord,
+        field: 1,
+    })
 }
 
 // An `ask` line, after so many directives.
-fn ask_line(line: &[u8], asked: usize) -> PolicyLine
+#[tactic(auto, unfolding(crate::specs::PolicyTexts::ask_line))]
+fn ask_line(line: &[u8], asked: usize) -> Result<Directive, FieldRefusal>
     ensures { result ≡ ask_line asked line.now }
 {
     let full = MOST_DIRECTIVES <= asked;
-    match records::read_record(line, full) {
-        RecordRead::Are(action, block) => PolicyLine::Ask(Directive { action, block }),
-        RecordRead::Not(number, field) => PolicyLine::Not(number, field),
-    }
+    let Record { action, block } = records::read_record(line, full)?;
+    Ok(Directive { action, block })
 }
 
 // A `but` line, after so many directives and exceptions, under the nearest directive above.
-fn but_line(line: &[u8], asked: usize, excepted: usize, above: Block) -> PolicyLine
+#[tactic(auto, unfolding(crate::specs::PolicyTexts::but_line))]
+fn but_line(line: &[u8], asked: usize, excepted: usize, above: Block) -> Result<Block, FieldRefusal>
     ensures { result ≡ but_line asked excepted above line.now }
 {
-    let fields = parts::count(line, TAB);
-    if fields != BUT_FIELDS {
-        return PolicyLine::Not(4, 0);
+    if parts::count(line, TAB) != BUT_FIELDS {
+        return Err(FieldRefusal::of_line(Reason::FieldCount));
     }
     if asked == 0 {
-        return PolicyLine::Not(11, 0);
+        return Err(FieldRefusal::of_line(Reason::NoDirective));
     }
     if MOST_EXCEPTIONS <= excepted {
-        return PolicyLine::Not(13, 0);
+        return Err(FieldRefusal::of_line(Reason::Full));
     }
     but_fields(line, above)
 }
 
 // What its fields say, from the left, and then whether the block lies inside the directive's.
-fn but_fields(line: &[u8], above: Block) -> PolicyLine
+#[tactic(auto, unfolding(crate::specs::PolicyTexts::but_fields))]
+fn but_fields(line: &[u8], above: Block) -> Result<Block, FieldRefusal>
     ensures { result ≡ but_fields above line.now }
 {
-    match records::read_block(line, 2) {
-        BlockRead::Is(block) => {
-            if block.inside(above) {
-                PolicyLine::But(block)
-            } else {
-                PolicyLine::Not(12, 0)
-            }
-        }
-        BlockRead::Not(number, field) => PolicyLine::Not(number, field),
+    let block = records::read_block(line, 2)?;
+    if !block.inside(above) {
+        return Err(FieldRefusal::of_line(Reason::OutsideDirective));
     }
+    Ok(block)
 }
 
-// The set with one directive more.
-fn add_directive(policy: Policy, directive: Directive) -> Policy
-    requires { policy.directive_count < most_directives }
-    ensures { result ≡ ask_added policy directive }
+// One directive more in the set.
+fn add_directive(policy: &mut Policy, directive: Directive)
+    requires { policy.old.directive_count < most_directives }
+    ensures { policy.new ≡ ask_added policy.old directive }
 {
-    let mut more = policy;
-    let n = more.directive_count;
-    more.directives[n] = directive;
-    more.directive_count = n + 1;
-    more
+    policy.directives[policy.directive_count] = directive;
+    policy.directive_count += 1;
 }
 
-// The set with one exception more, of its last directive.
-fn add_exception(policy: Policy, block: Block) -> Policy
-    requires { (policy.directive_count ≤ most_directives) × (policy.exception_count < most_exceptions) }
-    ensures { result ≡ but_added policy block }
+// One exception more in the set, of its last directive.
+fn add_exception(policy: &mut Policy, block: Block)
+    requires { (policy.old.directive_count ≤ most_directives) × (policy.old.exception_count < most_exceptions) }
+    ensures { policy.new ≡ but_added policy.old block }
 {
-    let mut more = policy;
-    let n = more.exception_count;
-    let directive = more.directive_count as u32;
-    let exception = Exception { directive, block };
-    more.exceptions[n] = exception;
-    more.exception_count = n + 1;
-    more
+    let directive = policy.directive_count as u32;
+    policy.exceptions[policy.exception_count] = Exception { directive, block };
+    policy.exception_count += 1;
 }

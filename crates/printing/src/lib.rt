@@ -1,148 +1,146 @@
-// Each kind of line that the program prints, as bytes put into a lent buffer. A call puts its line from a place on, as far as there
-// is room, and gives the place behind it. Each contract says which bytes these are (specs/Lines); that every other byte of the
-// buffer stays, and so one outcome is left, is what `putting` says of every text that is put.
+// Each kind of line that the program prints, as bytes put on an output: from its place on, as far as there is room. Each contract says
+// which bytes these are (specs/Lines); that the place is then behind them and every other byte of the buffer stays, and so one outcome
+// is left, is what `putting` says of every text that is put.
 
 #![tactic(auto)]
 
-ghost use Rattle.std.specs.Prelude.{[], ◌∷◌};
-ghost use Rattle.blocks.specs.Vocabulary.{span_of, block_of, packet_of};
-ghost use Rattle.sets.specs.Vocabulary.{label_of, refusal_of};
-ghost use Rattle.putting.specs.Putting.{Put};
-ghost use Rattle.putting.specs.Spelling.{decimal, quad};
-ghost use Rattle.printing.specs.Inner.{PutFields};
-ghost use Rattle.printing.specs.Lines.{bounds_of, numbers_of, word, verdict_line, blocks_line, block_line, refused_line, unreadable_line, spellings};
+ghost use Rattle.std.specs.Prelude.{◌≡◌, [], ◌∷◌, map};
+ghost use Rattle.blocks.specs.Vocabulary.{block_of, packet_of};
+ghost use Rattle.sets.specs.Vocabulary.{label_of};
+ghost use Rattle.putting.specs.Putting.{PutOn};
+ghost use Rattle.printing.specs.Inner.{PutFields, spelled};
+ghost use Rattle.printing.specs.Lines.{line, word, verdict_line, blocks_line, block_line, refused_line, unreadable_line};
 
-use blocks::{Block, Packet, Span};
-use sets::{Label, Refusal};
+use blocks::{Block, Packet};
+use putting::Output;
+use sets::Label;
+
+// A field of a line, by how it is spelled.
+#[derive(Clone, Copy)]
+enum Field<'a> {
+    Word(&'a [u8]),
+    Address(u32),
+    Number(u32),
+    Total(u64),
+}
 
 // Puts the verdict's line.
 pub fn put_verdict(
-    output: &mut [u8],
-    start: usize,
+    output: &mut Output,
     label: Label,
     accept_directive: u32,
     deny_directive: u32,
     packet: Packet,
-) -> usize
-    ensures { Put output.old start (verdict_line (record { label = label_of label; accept_directive = accept_directive; deny_directive = deny_directive; packet = packet_of packet })) output.new result }
+)
+    ensures { PutOn output.old (verdict_line (record { label = label_of label; accept_directive = accept_directive; deny_directive = deny_directive; packet = packet_of packet })) output.new }
 {
-    if label.kind() == 0 {
-        return putting::put_bytes(output, start, b"verdict conforms\n");
+    if label == Label::Good {
+        return put_line(output, b"verdict", &[Field::Word(b"conforms")]);
     }
-    let mut at = putting::put_bytes(output, start, b"verdict");
-    at = put_word(output, at, label);
-    at = put_number(output, at, label.rule());
-    at = put_number(output, at, accept_directive);
-    at = put_number(output, at, deny_directive);
-    at = put_packet(output, at, packet);
-    putting::put_byte(output, at, b'\n')
+    let fields = [
+        Field::Word(word(label)),
+        Field::Number(label.rule()),
+        Field::Number(accept_directive),
+        Field::Number(deny_directive),
+        Field::Address(packet.source),
+        Field::Address(packet.destination),
+        Field::Number(packet.protocol),
+        Field::Number(packet.port),
+    ];
+    put_line(output, b"verdict", &fields)
 }
 
 // Puts the line that tells how many blocks there are.
-pub fn put_total(output: &mut [u8], start: usize, total: u64) -> usize
-    ensures { Put output.old start (blocks_line total) output.new result }
+#[tactic(auto, unfolding(crate::specs::Lines::blocks_line))]
+pub fn put_total(output: &mut Output, total: u64)
+    ensures { PutOn output.old (blocks_line total) output.new }
 {
-    let mut at = putting::put_bytes(output, start, b"blocks");
-    at = putting::put_byte(output, at, b' ');
-    at = putting::put_decimal(output, at, total);
-    putting::put_byte(output, at, b'\n')
+    put_line(output, b"blocks", &[Field::Total(total)])
 }
 
 // Puts a block's line.
-pub fn put_block(output: &mut [u8], start: usize, kind: u32, rule: u32, block: Block) -> usize
-    ensures { Put output.old start (block_line kind rule (block_of block)) output.new result }
+#[tactic(auto, unfolding(crate::specs::Lines::block_line))]
+pub fn put_block(output: &mut Output, kind: u32, rule: u32, block: Block)
+    ensures { PutOn output.old (block_line kind rule (block_of block)) output.new }
 {
-    let mut at = putting::put_bytes(output, start, b"block");
-    at = put_number(output, at, kind);
-    at = put_number(output, at, rule);
-    at = put_addresses(output, at, block.source);
-    at = put_addresses(output, at, block.destination);
-    at = put_numbers(output, at, block.protocol);
-    at = put_numbers(output, at, block.port);
-    putting::put_byte(output, at, b'\n')
+    let fields = [
+        Field::Number(kind),
+        Field::Number(rule),
+        Field::Address(block.source.low),
+        Field::Address(block.source.high),
+        Field::Address(block.destination.low),
+        Field::Address(block.destination.high),
+        Field::Number(block.protocol.low),
+        Field::Number(block.protocol.high),
+        Field::Number(block.port.low),
+        Field::Number(block.port.high),
+    ];
+    put_line(output, b"block", &fields)
 }
 
-// Puts the line for a file that is refused.
-pub fn put_refused(output: &mut [u8], start: usize, name: &[u8], refusal: Refusal) -> usize
-    ensures { Put output.old start (refused_line name.now (refusal_of refusal)) output.new result }
+// Puts the line for a file that is refused: the refusal's number, line and field, and so any three numbers.
+#[tactic(auto, unfolding(crate::specs::Lines::refused_line))]
+pub fn put_refused(output: &mut Output, name: &[u8], number: u32, line: u32, field: u32)
+    ensures { PutOn output.old (refused_line name.now (record { number = number; line = line; field = field })) output.new }
 {
-    let mut at = putting::put_bytes(output, start, b"refused");
-    at = put_name(output, at, name);
-    at = put_number(output, at, refusal.number);
-    at = put_number(output, at, refusal.line);
-    at = put_number(output, at, refusal.field);
-    putting::put_byte(output, at, b'\n')
+    let fields = [
+        Field::Word(name),
+        Field::Number(number),
+        Field::Number(line),
+        Field::Number(field),
+    ];
+    put_line(output, b"refused", &fields)
 }
 
 // Puts the line for a file that cannot be read.
-pub fn put_unreadable(output: &mut [u8], start: usize, name: &[u8]) -> usize
-    ensures { Put output.old start (unreadable_line name.now) output.new result }
+#[tactic(auto, unfolding(crate::specs::Lines::unreadable_line))]
+pub fn put_unreadable(output: &mut Output, name: &[u8])
+    ensures { PutOn output.old (unreadable_line name.now) output.new }
 {
-    let mut at = putting::put_bytes(output, start, b"unreadable");
-    at = put_name(output, at, name);
-    putting::put_byte(output, at, b'\n')
+    put_line(output, b"unreadable", &[Field::Word(name)])
 }
 
-// Puts a name as a field.
-fn put_name(output: &mut [u8], start: usize, name: &[u8]) -> usize
-    ensures { PutFields output.old start (name.now ∷ []) output.new result }
+// Puts a line: its first field, the others with a space before each, and the byte that ends it.
+fn put_line(output: &mut Output, first: &[u8], fields: &[Field])
+    ensures { PutOn output.old (line first.now (map spelled fields.now)) output.new }
 {
-    let at = putting::put_byte(output, start, b' ');
-    putting::put_bytes(output, at, name)
+    output.put_bytes(first);
+    put_fields(output, fields);
+    output.put_byte(b'\n');
 }
 
-// Puts the verdict's word as a field.
-fn put_word(output: &mut [u8], start: usize, label: Label) -> usize
-    ensures { PutFields output.old start (word (label_of label) ∷ []) output.new result }
+// Puts fields.
+fn put_fields(output: &mut Output, fields: &[Field])
+    ensures { PutFields output.old (map spelled fields.now) output.new }
 {
-    match label {
-        Label::Good => put_name(output, start, b"conforms"),
-        Label::Conflict => put_name(output, start, b"conflict"),
-        Label::Wrong(_) => put_name(output, start, b"wrong"),
-        Label::Unasked(_) => put_name(output, start, b"unasked"),
-        Label::UnmetAccept => put_name(output, start, b"unmet-accept"),
-        Label::UnmetDeny => put_name(output, start, b"unmet-deny"),
+    for field in fields {
+        put_field(output, *field);
     }
 }
 
-// Puts a packet's numbers as fields.
-fn put_packet(output: &mut [u8], start: usize, packet: Packet) -> usize
-    ensures { PutFields output.old start (numbers_of spellings (packet_of packet)) output.new result }
+// Puts a space and a field.
+fn put_field(output: &mut Output, field: Field)
+    ensures { PutFields output.old (spelled field.entry ∷ []) output.new }
 {
-    let mut at = put_address(output, start, packet.source);
-    at = put_address(output, at, packet.destination);
-    at = put_number(output, at, packet.protocol);
-    put_number(output, at, packet.port)
+    output.put_byte(b' ');
+    match field {
+        Field::Word(word) => output.put_bytes(word),
+        Field::Address(address) => output.put_quad(address),
+        Field::Number(number) => output.put_decimal(u64::from(number)),
+        Field::Total(total) => output.put_decimal(total),
+    }
 }
 
-// Puts two addresses as fields.
-fn put_addresses(output: &mut [u8], start: usize, span: Span) -> usize
-    ensures { PutFields output.old start (bounds_of (quad ∷ []) (span_of span ∷ [])) output.new result }
+// The word of a label.
+fn word(label: Label) -> &'static [u8]
+    ensures { result.now ≡ word (label_of label) }
 {
-    let at = put_address(output, start, span.low);
-    put_address(output, at, span.high)
-}
-
-// Puts two numbers as fields.
-fn put_numbers(output: &mut [u8], start: usize, span: Span) -> usize
-    ensures { PutFields output.old start (bounds_of (decimal ∷ []) (span_of span ∷ [])) output.new result }
-{
-    let at = put_number(output, start, span.low);
-    put_number(output, at, span.high)
-}
-
-// Puts an address as a field.
-fn put_address(output: &mut [u8], start: usize, address: u32) -> usize
-    ensures { PutFields output.old start (quad address ∷ []) output.new result }
-{
-    let at = putting::put_byte(output, start, b' ');
-    putting::put_quad(output, at, address)
-}
-
-// Puts a number as a field.
-fn put_number(output: &mut [u8], start: usize, number: u32) -> usize
-    ensures { PutFields output.old start (decimal number ∷ []) output.new result }
-{
-    let at = putting::put_byte(output, start, b' ');
-    putting::put_decimal(output, at, number as u64)
+    match label {
+        Label::Good => b"conforms",
+        Label::Conflict => b"conflict",
+        Label::Wrong(_) => b"wrong",
+        Label::Unasked(_) => b"unasked",
+        Label::UnmetAccept => b"unmet-accept",
+        Label::UnmetDeny => b"unmet-deny",
+    }
 }

@@ -8,7 +8,8 @@ use native.Mathlib.Numerals.{add-one}
 use lib.ListN.{length, take, get_or, set, length-append}
 use lib.Seq.{sets, length-sets, take-suc}
 use Rattle.meaning.proofs.BufferStores.{sets_append, sets_past}
-use Rattle.putting.specs.Putting.{Put}
+use Rattle.putting.specs.Putting.{Put, PutOn}
+use Rattle.putting.specs.declared.Output.{Output}
 
 -- nothing is put
 pub put_nothing : (before : List ℕ) (start : ℕ) → Put before start [] before start
@@ -55,3 +56,17 @@ put_length {before} {text = text} {start = start} p = ap length p.stored ∙ len
 pub put_more : (text : List ℕ) (i : ℕ) {before between after : List ℕ} {start place end : ℕ} → i < length text
     → Put before start (take i text) between place → Put between place (get_or text i 0 ∷ []) after end → Put before start (take (i + 1) text) after end
 put_more text i within p q = put_same (sym (take-suc text i 0 within) ∙ ap (λ (k : ℕ). take k text) (sym (add-one i))) (put_then p q)
+
+-- the same of an output
+pub on_nothing : (o : Output) → PutOn o [] o
+on_nothing o = record { same = refl; put = put_nothing _ _ }
+
+pub on_then : {before between after : Output} {text more : List ℕ} → PutOn before text between → PutOn between more after → PutOn before (text ++ more) after
+on_then p q = record { same = q.same ∙ p.same; put = put_then p.put q.put }
+
+pub on_same : {before after : Output} {text other : List ℕ} → text ≡ other → PutOn before text after → PutOn before other after
+on_same {before} {after} same p = subst (λ (t : List ℕ). PutOn before t after) same p
+
+pub on_more : (text : List ℕ) (i : ℕ) {before between after : Output} → i < length text
+    → PutOn before (take i text) between → PutOn between (get_or text i 0 ∷ []) after → PutOn before (take (i + 1) text) after
+on_more text i within p q = record { same = q.same ∙ p.same; put = put_more text i within p.put q.put }

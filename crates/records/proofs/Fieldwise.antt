@@ -2,6 +2,7 @@
 use mathlib.Core.List.{List, [], ◌∷◌, ◌++◌, append-nil}
 use mathlib.Core.Path.{◌≡◌, refl, sym, ap, ◌∙◌}
 use native.Mathlib.Omega.{arith}
+use Rattle.std.specs.Prelude.{Result, Ok, Err}
 use Prim.Native.Nat.{ℕ, zero, suc, ◌+◌, ◌*◌, ◌-◌, ◌≤◌, ◌<◌}
 use denote.Ref.{Bor}
 use lib.ListN.{length, get_or, set, drop, replicate, length-append, drop_of_length-le}
@@ -19,11 +20,9 @@ use Rattle.blocks.specs.declared.Block.{Block}
 use Rattle.blocks.specs.declared.Span.{Span}
 use Rattle.sets.specs.Listed.{padded}
 use Rattle.sets.proofs.Padding.{padded_set}
-use Rattle.records.specs.Readers.{Reader, address_reader, protocol_reader, port_reader, readers, SpansRead, are, refused, on_spans, ahead, read_spans}
+use Rattle.sets.specs.declared.Reason.{Reason}
+use Rattle.records.specs.Readers.{Reader, address_reader, protocol_reader, port_reader, readers, refused, SpansRead, on_spans, ahead, read_spans}
 use Rattle.records.specs.Records.{read_block}
-use Rattle.records.specs.declared.BlockRead.TheVariants as block
-use Rattle.records.specs.declared.Checked.TheVariants as checked
-use Rattle.records.specs.declared.Checked.{Checked}
 
 -- the reader of a field, counted from 0
 abbrev pub reader : ℕ → Reader
@@ -46,21 +45,21 @@ reads_port (suc (suc (suc zero))) h other = refl
 reads_port (suc (suc (suc (suc i)))) h other = refl
 
 -- a reader has read the field that was shown
-pub has_read : (line text : Bor (List ℕ)) (i n : ℕ) (o said : Checked)
+pub has_read : (line text : Bor (List ℕ)) (i n : ℕ) (o said : Result Span Reason)
     → seen text ≡ shown line (field_piece line.now n) → o ≡ reader i text.now → o ≡ said → reader i (field line.now n) ≡ said
 has_read line text i n o said e f g = ap (reader i) (sym (shown_bytes line text (field_piece line.now n) e)) ∙ sym f ∙ g
 
 -- spans go on behind others, or stop as they did
 abbrev behind : blocks.Block → SpansRead → SpansRead
-behind ss x = on_spans x refused (λ ts. are (ss ++ ts))
+behind ss x = on_spans x Err (λ ts. Ok (ss ++ ts))
 
 behind_none : (x : SpansRead) → x ≡ behind [] x
-behind_none (are ts) = refl
-behind_none (refused number field) = refl
+behind_none (Ok ts) = refl
+behind_none (Err r) = refl
 
-behind_more : (ss : blocks.Block) (n : ℕ) (s : Span) (x : SpansRead) → behind ss (ahead n (checked.Is s) x) ≡ behind (ss ++ (span_of s ∷ [])) x
-behind_more ss n s (are ts) = ap are (sym (append_snoc ss (span_of s) ts))
-behind_more ss n s (refused number field) = refl
+behind_more : (ss : blocks.Block) (n : ℕ) (s : Span) (x : SpansRead) → behind ss (ahead n (Ok s) x) ≡ behind (ss ++ (span_of s ∷ [])) x
+behind_more ss n s (Ok ts) = ap Ok (sym (append_snoc ss (span_of s) ts))
+behind_more ss n s (Err r) = refl
 
 -- the bounds of one span more
 bounds_more : (ss : blocks.Block) (s : blocks.Span) → bounds (ss ++ (s ∷ [])) ≡ (bounds ss ++ (s.low ∷ [])) ++ (s.high ∷ [])
@@ -101,14 +100,14 @@ module _ (line : List ℕ) (k i : ℕ) (numbers : List ℕ) (h : Read line k i n
       ∙ ap (padded block_bounds 0) (sym (bounds_more h.ss (span_of s)))
 
   -- the other readers are the field's and those behind it
-  reads_on : (said : Checked) → i < field_count → reader i (field line (k + i)) ≡ said
+  reads_on : (said : Result Span Reason) → i < field_count → reader i (field line (k + i)) ≡ said
       → read_spans readers line k ≡ behind h.ss (ahead (k + i) said (read_spans (drop (suc i) readers) line (k + i + 1)))
   reads_on said more e =
       h.others
       ∙ ap (λ (rs : List Reader). behind h.ss (read_spans rs line (k + i))) (drop-cons readers i port_reader more)
-      ∙ ap (λ (x : Checked). behind h.ss (ahead (k + i) x (read_spans (drop (suc i) readers) line (k + i + 1)))) e
+      ∙ ap (λ (x : Result Span Reason). behind h.ss (ahead (k + i) x (read_spans (drop (suc i) readers) line (k + i + 1)))) e
 
-  pub read_more : (s : Span) → i < field_count → reader i (field line (k + i)) ≡ checked.Is s
+  pub read_more : (s : Span) → i < field_count → reader i (field line (k + i)) ≡ Ok s
       → Read line k (i + 1) (set (set numbers (2 * i) s.low) (2 * i + 1) s.high)
   read_more s more e =
       let again : k + i + 1 ≡ k + (i + 1) = omega arith in
@@ -118,22 +117,22 @@ module _ (line : List ℕ) (k i : ℕ) (numbers : List ℕ) (h : Read line k i n
         many = length-append h.ss (span_of s ∷ []) ∙ omega (arith, h.many);
         in_front = written s more;
         others =
-            reads_on (checked.Is s) more e
+            reads_on (Ok s) more e
             ∙ behind_more h.ss (k + i) s (read_spans (drop (suc i) readers) line (k + i + 1))
             ∙ (λ j. behind (h.ss ++ (span_of s ∷ [])) (read_spans (drop (next j) readers) line (again j)));
       }
 
-  pub read_stop : (number : ℕ) → i < field_count → reader i (field line (k + i)) ≡ checked.Not number → block.Not number (k + i) ≡ read_block line k
+  pub read_stop : (reason : Reason) → i < field_count → reader i (field line (k + i)) ≡ Err reason → Err (refused reason (k + i)) ≡ read_block line k
   unfolding read_block
-  read_stop number more e = sym (ap (λ (x : SpansRead). on_spans x block.Not (λ ss. block.Is (block_from ss))) (reads_on (checked.Not number) more e))
+  read_stop reason more e = sym (ap (λ (x : SpansRead). on_spans x Err (λ ss. Ok (block_from ss))) (reads_on (Err reason) more e))
 
-  pub read_all : (b : Block) → field_count ≤ i → bounds (block_of b) ≡ numbers → block.Is b ≡ read_block line k
+  pub read_all : (b : Block) → field_count ≤ i → bounds (block_of b) ≡ numbers → Ok b ≡ read_block line k
   unfolding read_block
   read_all b all e =
       let full : block_bounds - length (bounds h.ss) ≡ 0 = omega (arith, h.many, bounds_length h.ss) in
       let front : bounds (block_of b) ≡ bounds h.ss = e ∙ h.in_front ∙ ap (λ (n : ℕ). bounds h.ss ++ replicate n 0) full ∙ append-nil (bounds h.ss) in
       let spans : block_of b ≡ h.ss = sym (spans_of_bounds (block_of b)) ∙ ap spans_of front ∙ spans_of_bounds h.ss in
-      let last : read_spans (drop i readers) line (k + i) ≡ are [] = ap (λ (rs : List Reader). read_spans rs line (k + i)) (drop_of_length-le readers all) in
-      let whole : read_spans readers line k ≡ are h.ss = h.others ∙ ap (behind h.ss) last ∙ ap are (append-nil h.ss) in
-      ap (λ (ss : blocks.Block). block.Is (block_from ss)) spans
-      ∙ sym (ap (λ (x : SpansRead). on_spans x block.Not (λ ss. block.Is (block_from ss))) whole)
+      let last : read_spans (drop i readers) line (k + i) ≡ Ok [] = ap (λ (rs : List Reader). read_spans rs line (k + i)) (drop_of_length-le readers all) in
+      let whole : read_spans readers line k ≡ Ok h.ss = h.others ∙ ap (behind h.ss) last ∙ ap Ok (append-nil h.ss) in
+      ap (λ (ss : blocks.Block). Ok (block_from ss)) spans
+      ∙ sym (ap (λ (x : SpansRead). on_spans x Err (λ ss. Ok (block_from ss))) whole)

@@ -3,6 +3,7 @@ use mathlib.Core.Bool.{Bool, true, false, cond, not}
 use mathlib.Core.List.{List, [], ◌∷◌}
 use mathlib.Core.Path.{◌≡◌, refl, sym, ap, ◌∙◌}
 use native.Mathlib.Omega.{arith}
+use Rattle.std.specs.Prelude.{Option, Some, None, Result, Ok, Err}
 use Prim.Native.Nat.{ℕ, zero, suc, ◌+◌, ◌-◌, ◌≤◌, ◌<◌}
 use borrow.Author.Tests.{le-leb, lt-ltb}
 use lib.Dec.{eqb}
@@ -19,37 +20,36 @@ use Rattle.parts.specs.Parts.{same}
 use Rattle.parts.specs.Words.{bytes}
 use Rattle.blocks.specs.Vocabulary.{block_of, block_from}
 use Rattle.numbers.specs.Intervals.{span, interval_of}
-use Rattle.numbers.specs.declared.Bounds.TheVariants as bounds
-use Rattle.numbers.specs.declared.Bounds.{Bounds}
+use Rattle.blocks.specs.declared.Block.{Block}
+use Rattle.blocks.specs.declared.Span.{Span}
+use Rattle.numbers.specs.declared.Unfit.TheVariants.{Unread, NoSpan}
+use Rattle.numbers.specs.declared.Unfit.{Unfit}
 use Rattle.numbers.proofs.Spanning.{InField, interval_in_field}
 use Rattle.addresses.specs.Addresses.{address_of}
 use Rattle.addresses.proofs.Addressing.{address_in_field}
-use Rattle.records.specs.Readers.{check, Reader, address_reader, protocol_reader, port_reader, readers, SpansRead, are, refused, on_spans, ahead, read_spans}
+use Rattle.sets.specs.declared.Action.{Action}
+use Rattle.sets.specs.declared.Reason.TheVariants.{FieldCount, ActionUnread, AddressUnread, AddressUnfit, ProtocolUnread, PortUnread, RangeFalls, Full}
+use Rattle.sets.specs.declared.Reason.{Reason}
+use Rattle.records.specs.Readers.{check, Reader, address_reader, protocol_reader, port_reader, readers, refused, SpansRead, on_spans, ahead, read_spans}
 use Rattle.records.specs.Records.{read_action, on_action, read_block, on_block, read_record}
 use Rattle.records.specs.Services.{protocol_of, port_of}
-use Rattle.records.specs.declared.ActionRead.TheVariants as action
-use Rattle.records.specs.declared.ActionRead.{ActionRead}
-use Rattle.records.specs.declared.BlockRead.TheVariants as block
-use Rattle.records.specs.declared.BlockRead.{BlockRead}
-use Rattle.records.specs.declared.Checked.TheVariants as checked
-use Rattle.records.specs.declared.Checked.{Checked}
-use Rattle.records.specs.declared.RecordRead.TheVariants as common
-use Rattle.records.specs.declared.RecordRead.{RecordRead}
+use Rattle.records.specs.declared.FieldRefusal.{FieldRefusal}
+use Rattle.records.specs.declared.Record.{Record}
 
 -- a span that reads does not fall, and ends below the size of its field
-abbrev CheckedFits : ℕ → Checked → Type 0
-CheckedFits n (checked.Is s) = (s.low ≤ s.high) × (s.high < n)
-CheckedFits n (checked.Not number) = Unit {0}
+abbrev CheckedFits : ℕ → Result Span Reason → Type 0
+CheckedFits n (Ok s) = (s.low ≤ s.high) × (s.high < n)
+CheckedFits n (Err reason) = Unit {0}
 
 -- spans that read, one for each field, are in form
 abbrev SpansInForm : List ℕ → SpansRead → Type 0
-SpansInForm ns (are ss) = block_in_form ns ss ≡ true
-SpansInForm ns (refused number field) = Unit {0}
+SpansInForm ns (Ok ss) = block_in_form ns ss ≡ true
+SpansInForm ns (Err r) = Unit {0}
 
 -- what reads as a block is in form
-abbrev pub ReadInForm : BlockRead → Type 0
-ReadInForm (block.Is b) = block_in_form fields (block_of b) ≡ true
-ReadInForm (block.Not number field) = Unit {0}
+abbrev pub ReadInForm : Result Block FieldRefusal → Type 0
+ReadInForm (Ok b) = block_in_form fields (block_of b) ≡ true
+ReadInForm (Err r) = Unit {0}
 
 -- a reader for each field, whose spans fit the field
 data ReadersFit : List Reader → List ℕ → Type 0 where
@@ -63,16 +63,16 @@ spans_in_form fit_none line k = refl
 spans_in_form (fit_more {r = r} {n = n} {rs = rs} {ns = ns} fits others) line k =
     go (r (field line k)) (read_spans rs line (k + 1)) (fits (field line k)) (spans_in_form others line (k + 1))
   where
-    go : (x : Checked) (y : SpansRead) → CheckedFits n x → SpansInForm ns y → SpansInForm (n ∷ ns) (ahead k x y)
-    go (checked.Not number) y e f = tt
-    go (checked.Is s) (refused number field) e f = tt
-    go (checked.Is s) (are ss) e f = simp (le-leb s.low s.high e.0, lt-ltb s.high n e.1, f)
+    go : (x : Result Span Reason) (y : SpansRead) → CheckedFits n x → SpansInForm ns y → SpansInForm (n ∷ ns) (ahead k x y)
+    go (Err reason) y e f = tt
+    go (Ok s) (Err r) e f = tt
+    go (Ok s) (Ok ss) e f = simp (le-leb s.low s.high e.0, lt-ltb s.high n e.1, f)
 
 -- bounds up to a field's largest number fit the field
-check_fits : (n unread unfit : ℕ) (b : Bounds) → 0 < n → InField (n - 1) b → CheckedFits n (check unread unfit b)
-check_fits n unread unfit (bounds.Are s) some h = (h.0, omega (arith, h.1))
-check_fits n unread unfit bounds.Unread some h = tt
-check_fits n unread unfit bounds.NoSpan some h = tt
+check_fits : (n : ℕ) (unread unfit : Reason) (b : Result Span Unfit) → 0 < n → InField (n - 1) b → CheckedFits n (check unread unfit b)
+check_fits n unread unfit (Ok s) some h = (h.0, omega (arith, h.1))
+check_fits n unread unfit (Err Unread) some h = tt
+check_fits n unread unfit (Err NoSpan) some h = tt
 
 -- the largest number of a field of w bits
 abbrev largest : ℕ → ℕ
@@ -83,7 +83,7 @@ unfolding protocol_of
 protocol_in_field s = go (same s (bytes "tcp")) (same s (bytes "udp")) (same s (bytes "icmp"))
   where
     go : (a b c : Bool)
-        → InField (largest 8) (cond a (bounds.Are (span 6 6)) (cond b (bounds.Are (span 17 17)) (cond c (bounds.Are (span 1 1)) (interval_of (largest 8) s))))
+        → InField (largest 8) (cond a (Ok (span 6 6)) (cond b (Ok (span 17 17)) (cond c (Ok (span 1 1)) (interval_of (largest 8) s))))
     go true b c = (omega arith, omega arith)
     go false true c = (omega arith, omega arith)
     go false false true = (omega arith, omega arith)
@@ -94,13 +94,13 @@ unfolding port_of
 port_in_field s = interval_in_field (largest 16) s
 
 address_fits : (s : List ℕ) → CheckedFits (size_of 32) (address_reader s)
-address_fits s = check_fits (size_of 32) 6 7 (address_of s) (omega arith) (address_in_field s)
+address_fits s = check_fits (size_of 32) AddressUnread AddressUnfit (address_of s) (omega arith) (address_in_field s)
 
 protocol_fits : (s : List ℕ) → CheckedFits (size_of 8) (protocol_reader s)
-protocol_fits s = check_fits (size_of 8) 8 10 (protocol_of s) (omega arith) (protocol_in_field s)
+protocol_fits s = check_fits (size_of 8) ProtocolUnread RangeFalls (protocol_of s) (omega arith) (protocol_in_field s)
 
 port_fits : (s : List ℕ) → CheckedFits (size_of 16) (port_reader s)
-port_fits s = check_fits (size_of 16) 9 10 (port_of s) (omega arith) (port_in_field s)
+port_fits s = check_fits (size_of 16) PortUnread RangeFalls (port_of s) (omega arith) (port_in_field s)
 
 -- the fields' own readers fit them, field by field
 readers_fit : ReadersFit readers fields
@@ -121,24 +121,27 @@ pub read_block_in_form : (line : List ℕ) (k : ℕ) → ReadInForm (read_block 
 unfolding read_block
 read_block_in_form line k = go (read_spans readers line k) (spans_in_form readers_fit line k)
   where
-    go : (x : SpansRead) → SpansInForm fields x → ReadInForm (on_spans x block.Not (λ ss. block.Is (block_from ss)))
-    go (refused number field) e = tt
-    go (are ss) e = ap (block_in_form fields) (spans_stand ss (form_shaped fields ss (passes _ e))) ∙ e
+    go : (x : SpansRead) → SpansInForm fields x → ReadInForm (on_spans x Err (λ ss. Ok (block_from ss)))
+    go (Err r) e = tt
+    go (Ok ss) e = ap (block_in_form fields) (spans_stand ss (form_shaped fields ss (passes _ e))) ∙ e
 
 -- an action and a block that read came where there was room, and the block is in form
-abbrev pub RecordInForm : Bool → RecordRead → Type 0
-RecordInForm full (common.Are a b) = (full ≡ false) × (block_in_form fields (block_of b) ≡ true)
-RecordInForm full (common.Not number field) = Unit {0}
+abbrev pub RecordInForm : Bool → Result Record FieldRefusal → Type 0
+RecordInForm full (Ok r) = (full ≡ false) × (block_in_form fields (block_of r.block) ≡ true)
+RecordInForm full (Err r) = Unit {0}
 
 pub read_record_in_form : (full : Bool) (line : List ℕ) → RecordInForm full (read_record full line)
 unfolding read_record
 read_record_in_form full line =
     go (not (eqb (field_count line) (2 + sizes.field_count))) full refl (read_action line) (read_block line 3) (read_block_in_form line 3)
   where
-    go : (a b : Bool) → full ≡ b → (x : ActionRead) (y : BlockRead) → ReadInForm y
-        → RecordInForm full (cond a (common.Not 4 0) (cond b (common.Not 13 0) (on_action x (common.Not 5 2) (λ e. on_block y common.Not (λ d. common.Are e d)))))
+    go : (a b : Bool) → full ≡ b → (x : Option Action) (y : Result Block FieldRefusal) → ReadInForm y
+        → RecordInForm full
+        (cond a (Err (refused FieldCount 0))
+        (cond b (Err (refused Full 0))
+        (on_action x (Err (refused ActionUnread 2)) (λ e. on_block y Err (λ d. Ok (record { action = e; block = d }))))))
     go true b e x y h = tt
     go false true e x y h = tt
-    go false false e action.Unread y h = tt
-    go false false e (action.Is x) (block.Not number field) h = tt
-    go false false e (action.Is x) (block.Is y) h = (e, h)
+    go false false e None y h = tt
+    go false false e (Some x) (Err r) h = tt
+    go false false e (Some x) (Ok y) h = (e, h)

@@ -13,9 +13,9 @@ use Rattle.meaning.proofs.VerdictUnique.{verdict_is_unique}
 use Rattle.contracts.specs.Answers.{OneOutcome}
 use Rattle.sets.specs.declared.Policy.{Policy}
 use Rattle.sets.specs.declared.Rules.{Rules}
-use Rattle.sets.specs.Vocabulary.{rule_set_of, policy_set_of}
-use Rattle.rule_text.specs.RuleTexts.{read_rules}
-use Rattle.policy_text.specs.PolicyTexts.{read_policy}
+use Rattle.sets.specs.Vocabulary.{refused_of, rule_set_of, policy_set_of}
+use Rattle.rule_text.specs.RuleTexts.{read_rules, rules_told}
+use Rattle.policy_text.specs.PolicyTexts.{read_policy, policy_told}
 use Rattle.findings.specs.Found.{label_at}
 use Rattle.printing.specs.Lines.{verdict_line, blocks_line}
 use Rattle.report.specs.Runs.{File, unreadable, holding, SetsPrinted, TextsPrinted, Printed, Reported, most_block_lines, block_lines}
@@ -32,9 +32,9 @@ one_for_sets rules policy s t p q =
 
 one_for_texts : (rules policy s t : List ℕ) → TextsPrinted rules policy s → TextsPrinted rules policy t → s ≡ t
 one_for_texts rules policy s t p q =
-    elim (ℕ_discrete (read_rules rules).refusal.number 0) [
-      | yes none ↦ elim (ℕ_discrete (read_policy policy).refusal.number 0) [
-        | yes zero ↦ one_for_sets (read_rules rules).rules (read_policy policy).policy s t (p.both_read none zero) (q.both_read none zero)
+    elim (ℕ_discrete (refused_of (read_rules rules)).number 0) [
+      | yes none ↦ elim (ℕ_discrete (refused_of (read_policy policy)).number 0) [
+        | yes zero ↦ one_for_sets (rules_told (read_rules rules)) (policy_told (read_policy policy)) s t (p.both_read none zero) (q.both_read none zero)
         | no some ↦ p.policy_refused none some ∙ sym (q.policy_refused none some)
       ]
       | no some ↦ p.rules_refused some ∙ sym (q.rules_refused some)
@@ -54,5 +54,5 @@ one_report rules policy before after after' r s p q =
       p.put.stored ∙ ap (sets before 0) same ∙ sym q.put.stored,
     )
 
-pub report_once : OneOutcome (λ after. after.1.1.1.1.0.now) (report_call.Post)
+pub report_once : OneOutcome (λ after. after.1.1.0.now) (report_call.Post)
 report_once κs a r s after after' e f = one_report _ _ _ _ _ r s e f

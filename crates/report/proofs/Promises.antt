@@ -21,16 +21,16 @@ use Rattle.meaning.proofs.Document.{run_blocks, run_verdict}
 use Rattle.parts.specs.Words.{bytes}
 use Rattle.sets.specs.declared.Policy.{Policy}
 use Rattle.sets.specs.declared.Rules.{Rules}
-use Rattle.sets.specs.Vocabulary.{refusal_of, policy_set_of}
+use Rattle.sets.specs.Vocabulary.{refused_of, policy_set_of}
 use Rattle.numbers.specs.Decimals.{decimal_of}
 use Rattle.numbers.specs.Intervals.{interval_of}
 use Rattle.addresses.specs.Addresses.{quad_of, prefix_of, masked_by, sized_by, address_of}
 use Rattle.texts.specs.Texts.{refuse_text}
 use Rattle.records.specs.Records.{read_action, read_block, read_record}
 use Rattle.records.specs.Services.{protocol_of, port_of}
-use Rattle.rule_text.specs.RuleTexts.{rule_record, rule_line, read_rules}
+use Rattle.rule_text.specs.RuleTexts.{rule_record, rule_line, read_rules, rules_told}
 use Rattle.rule_text.proofs.Document.{document_rules_read}
-use Rattle.policy_text.specs.PolicyTexts.{but_fields, ask_line, but_line, policy_line, read_policy}
+use Rattle.policy_text.specs.PolicyTexts.{but_fields, ask_line, but_line, policy_line, read_policy, policy_told}
 use Rattle.policy_text.proofs.Document.{document_policy_read}
 use Rattle.printing.specs.Lines.{verdict_line, blocks_line, block_line}
 use Rattle.putting.specs.Spelling.{decimal, quad}
@@ -61,12 +61,12 @@ sets_fit rules policy text p =
 
 texts_fit : (rules policy text : List ℕ) → TextsPrinted rules policy text → length text ≤ most_output
 texts_fit rules policy text p =
-    elim (ℕ_discrete (read_rules rules).refusal.number 0) [
-      | yes none ↦ elim (ℕ_discrete (read_policy policy).refusal.number 0) [
-        | yes zero ↦ sets_fit (read_rules rules).rules (read_policy policy).policy text (p.both_read none zero)
-        | no some ↦ omega (arith, ap length (p.policy_refused none some), refused_line_few policy_name (refusal_of (read_policy policy).refusal))
+    elim (ℕ_discrete (refused_of (read_rules rules)).number 0) [
+      | yes none ↦ elim (ℕ_discrete (refused_of (read_policy policy)).number 0) [
+        | yes zero ↦ sets_fit (rules_told (read_rules rules)) (policy_told (read_policy policy)) text (p.both_read none zero)
+        | no some ↦ omega (arith, ap length (p.policy_refused none some), refused_line_few policy_name (refused_of (read_policy policy)))
       ]
-      | no some ↦ omega (arith, ap length (p.rules_refused some), refused_line_few rules_name (refusal_of (read_rules rules).refusal))
+      | no some ↦ omega (arith, ap length (p.rules_refused some), refused_line_few rules_name (refused_of (read_rules rules)))
     ]
 
 -- No output is longer than 262,144 bytes.
@@ -98,11 +98,11 @@ abbrev output : String
 output =
     "verdict wrong 2 0 1 10.20.0.9 10.30.0.6 6 8443\nblocks 4\nblock 4 0 10.20.0.0 10.20.0.8 10.30.0.7 10.30.0.7 6 6 8443 8443\nblock 2 2 10.20.0.9 10.20.0.9 10.30.0.6 10.30.0.6 6 6 8443 8443\nblock 4 0 10.20.0.9 10.20.0.9 10.30.0.7 10.30.0.7 6 6 8443 8443\nblock 4 0 10.20.0.10 10.20.0.255 10.30.0.7 10.30.0.7 6 6 8443 8443\n"
 
-rules_none : (read_rules (bytes rules_text)).refusal.number ≡ 0
+rules_none : (refused_of (read_rules (bytes rules_text))).number ≡ 0
 unfolding read_rules refuse_text rule_line rule_record read_record read_action read_block address_of sized_by masked_by prefix_of quad_of decimal_of ones_in protocol_of port_of interval_of
 rules_none = refl
 
-policy_none : (read_policy (bytes policy_text)).refusal.number ≡ 0
+policy_none : (refused_of (read_policy (bytes policy_text))).number ≡ 0
 unfolding read_policy refuse_text policy_line ask_line but_line but_fields inside read_record read_action read_block address_of sized_by masked_by prefix_of quad_of decimal_of ones_in protocol_of port_of interval_of
 policy_none = refl
 
@@ -118,10 +118,10 @@ document_run =
       policy_refused = λ none some. absurd (some policy_none);
       both_read = λ none zero. record {
         verdict = document.verdict_line;
-        judged = subst (λ (t : Table). VerdictOn fields t (policy_of (policy_set_of (read_policy (bytes policy_text)).policy)) document.verdict_line) (sym document_rules_read)
+        judged = subst (λ (t : Table). VerdictOn fields t (policy_of (policy_set_of (policy_told (read_policy (bytes policy_text))))) document.verdict_line) (sym document_rules_read)
             (subst (λ (q : policies.Policy). VerdictOn fields document.rules q document.verdict_line) (sym document_policy_read) run_verdict);
         blocks = document.block_lines;
-        listed = subst (λ (t : Table). FaultListing fields t (policy_of (policy_set_of (read_policy (bytes policy_text)).policy)) document.block_lines) (sym document_rules_read)
+        listed = subst (λ (t : Table). FaultListing fields t (policy_of (policy_set_of (policy_told (read_policy (bytes policy_text))))) document.block_lines) (sym document_rules_read)
             (subst (λ (q : policies.Policy). FaultListing fields document.rules q document.block_lines) (sym document_policy_read) run_blocks);
         printed = output_is;
       };

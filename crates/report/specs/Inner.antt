@@ -9,26 +9,33 @@ use Rattle.sets.specs.declared.Policy.{Policy}
 use Rattle.sets.specs.declared.Rules.{Rules}
 use Rattle.findings.specs.Found.{VerdictFor, ListingFor}
 use Rattle.printing.specs.Lines.{verdict_line, blocks_line, block_line}
-use Rattle.putting.specs.Putting.{Put}
-use Rattle.report.specs.Runs.{SetsPrinted, most_block_lines, block_lines}
+use Rattle.putting.specs.declared.Output.{Output}
+use Rattle.putting.specs.Putting.{PutOn}
+use Rattle.report.specs.Runs.{File, Printed, SetsPrinted, most_block_lines, block_lines}
+
+-- what is printed for files is put
+pub record FilesPut (rules policy : File) (before after : Output) : Type 0 where
+  pub text : List ℕ
+  pub printed : Printed rules policy text
+  pub put : PutOn before text after
 
 -- what is printed for sets is put
-pub record SetsPut (rules : Rules) (policy : Policy) (before after : List ℕ) (end : ℕ) : Type 0 where
+pub record SetsPut (rules : Rules) (policy : Policy) (before after : Output) : Type 0 where
   pub text : List ℕ
   pub printed : SetsPrinted rules policy text
-  pub put : Put before 0 text after end
+  pub put : PutOn before text after
 
 -- the verdict is put
-pub record VerdictPut (rules : Rules) (policy : Policy) (before after : List ℕ) (end : ℕ) : Type 0 where
+pub record VerdictPut (rules : Rules) (policy : Policy) (before after : Output) : Type 0 where
   pub verdict : Verdict
   pub judged : VerdictFor rules policy verdict
-  pub put : Put before 0 (verdict_line verdict) after end
+  pub put : PutOn before (verdict_line verdict) after
 
 -- the total and the first blocks are put
-pub record ListingPut (rules : Rules) (policy : Policy) (before : List ℕ) (start : ℕ) (after : List ℕ) (end : ℕ) : Type 0 where
+pub record ListingPut (rules : Rules) (policy : Policy) (before after : Output) : Type 0 where
   pub blocks : List (Listed Label)
   pub listed : ListingFor rules policy blocks
-  pub put : Put before start (blocks_line (length blocks) ++ block_lines (take most_block_lines blocks)) after end
+  pub put : PutOn before (blocks_line (length blocks) ++ block_lines (take most_block_lines blocks)) after
 
 -- the bounds of a block, from a place on
 abbrev pub bounds_at : List ℕ → ℕ → List ℕ

@@ -1,14 +1,15 @@
 -- "One whole run": what is printed for two files.
-use Rattle.std.specs.Prelude.{Bool, true, false, List, [], ◌∷◌, ◌++◌, ◌≡◌, ℕ, length, take}
+use Rattle.std.specs.Prelude.{Option, Some, None, List, [], ◌∷◌, ◌++◌, ◌≡◌, ℕ, length, take}
+use Rattle.std.specs.Borrow.{Bor}
 use Rattle.meaning.specs.Labels.{Label, kind, rule}
 use Rattle.meaning.specs.Listings.{Listed}
 use Rattle.meaning.specs.Verdicts.{Verdict}
 use Rattle.parts.specs.Words.{bytes}
 use Rattle.sets.specs.declared.Policy.{Policy}
 use Rattle.sets.specs.declared.Rules.{Rules}
-use Rattle.sets.specs.Vocabulary.{refusal_of}
-use Rattle.rule_text.specs.RuleTexts.{read_rules}
-use Rattle.policy_text.specs.PolicyTexts.{read_policy}
+use Rattle.sets.specs.Vocabulary.{refused_of}
+use Rattle.rule_text.specs.RuleTexts.{read_rules, rules_told}
+use Rattle.policy_text.specs.PolicyTexts.{read_policy, policy_told}
 use Rattle.findings.specs.Found.{VerdictFor, ListingFor}
 use Rattle.printing.specs.Lines.{verdict_line, blocks_line, block_line, refused_line, unreadable_line}
 use Rattle.putting.specs.Putting.{Put}
@@ -19,9 +20,9 @@ pub data File : Type 0 where
   holding : List ℕ → File
 
 -- the file of which this was read, if it could be
-abbrev pub file_of : Bool → List ℕ → File
-file_of true text = holding text
-file_of false text = unreadable
+abbrev pub file_of : Option (Bor (List ℕ)) → File
+file_of (Some text) = holding text.now
+file_of None = unreadable
 
 -- the names of the two
 abbrev pub rules_name : List ℕ
@@ -53,11 +54,11 @@ pub record SetsPrinted (rules : Rules) (policy : Policy) (text : List ℕ) : Typ
 
 -- what is printed for two texts: "A refusal prints one line and nothing else"; "if both texts are refused, the one for `rules.txt`"
 pub record TextsPrinted (rules policy text : List ℕ) : Type 0 where
-  pub rules_refused : ¬ ((read_rules rules).refusal.number ≡ 0) → text ≡ refused_line rules_name (refusal_of (read_rules rules).refusal)
-  pub policy_refused : (read_rules rules).refusal.number ≡ 0 → ¬ ((read_policy policy).refusal.number ≡ 0)
-      → text ≡ refused_line policy_name (refusal_of (read_policy policy).refusal)
-  pub both_read : (read_rules rules).refusal.number ≡ 0 → (read_policy policy).refusal.number ≡ 0
-      → SetsPrinted (read_rules rules).rules (read_policy policy).policy text
+  pub rules_refused : ¬ ((refused_of (read_rules rules)).number ≡ 0) → text ≡ refused_line rules_name (refused_of (read_rules rules))
+  pub policy_refused : (refused_of (read_rules rules)).number ≡ 0 → ¬ ((refused_of (read_policy policy)).number ≡ 0)
+      → text ≡ refused_line policy_name (refused_of (read_policy policy))
+  pub both_read : (refused_of (read_rules rules)).number ≡ 0 → (refused_of (read_policy policy)).number ≡ 0
+      → SetsPrinted (rules_told (read_rules rules)) (policy_told (read_policy policy)) text
 
 -- what is printed for two files: "If a file cannot be opened or read, only `unreadable` and the first such file's name, before any
 -- refusal."

@@ -9,13 +9,16 @@ ghost use Rattle.meaning.specs.Sizes.{block_bounds, row_numbers};
 ghost use Rattle.bounds.specs.SetBlocks.{Limited};
 ghost use Rattle.charts.specs.Charted.{Charted};
 ghost use Rattle.findings.specs.Found.{InForm};
-ghost use Rattle.putting.specs.Putting.{Put};
-ghost use Rattle.report.specs.Inner.{SetsPut, VerdictPut, ListingPut, bounds_at, row_line, row_lines};
+ghost use Rattle.sets.specs.Vocabulary.{refusal_of};
+ghost use Rattle.putting.specs.Putting.{PutOn};
+ghost use Rattle.printing.specs.Lines.{refused_line};
+ghost use Rattle.report.specs.Inner.{FilesPut, SetsPut, VerdictPut, ListingPut, bounds_at, row_line, row_lines};
 ghost use Rattle.report.specs.Runs.{Reported, file_of, holding, most_block_lines};
 
-use blocks::{BOUNDS, Block, FIELDS};
+use blocks::{BOUNDS, Block, FIELDS, Packet};
 use layout::ROW;
-use sets::{Policy, Rules};
+use putting::Output;
+use sets::{Label, Policy, Refusal, Rules};
 
 // "At most 512 block lines."
 const MOST_BLOCK_LINES: usize = 512;
@@ -28,130 +31,160 @@ pub const MOST_READ: usize = texts::MOST_BYTES + 1;
 // The room that no output exceeds.
 pub const MOST_OUTPUT: usize = 262144;
 
-// Puts the output for two files at the front of the buffer, and gives its length. A file is what was read of it, and whether it
-// could be read.
-pub fn report(
-    rules_read: bool,
-    rules: &[u8],
-    policy_read: bool,
-    policy: &[u8],
-    output: &mut [u8],
-) -> usize
-    ensures { Reported (file_of rules_read rules.now) (file_of policy_read policy.now) output.old output.new result }
+// Puts the output for two files at the front of the buffer, and gives its length. A file is what was read of it; none if it could
+// not be read.
+pub fn report(rules: Option<&[u8]>, policy: Option<&[u8]>, output: &mut [u8]) -> usize
+    ensures { Reported (file_of rules.entry) (file_of policy.entry) output.old output.new result }
 {
-    if rules_read {
-        if policy_read {
-            return report_texts(rules, policy, output);
-        }
-        return printing::put_unreadable(output, 0, b"policy.txt");
+    let mut output = Output {
+        bytes: output,
+        at: 0,
+    };
+    report_files(rules, policy, &mut output);
+    output.at
+}
+
+// Puts the output for two files.
+fn report_files(rules: Option<&[u8]>, policy: Option<&[u8]>, output: &mut Output)
+    ensures { FilesPut (file_of rules.entry) (file_of policy.entry) output.old output.new }
+{
+    match (rules, policy) {
+        (Some(rules), Some(policy)) => report_texts(rules, policy, output),
+        (Some(_), None) => printing::put_unreadable(output, b"policy.txt"),
+        (None, _) => printing::put_unreadable(output, b"rules.txt"),
     }
-    printing::put_unreadable(output, 0, b"rules.txt")
 }
 
 // The output for two texts.
-fn report_texts(rules: &[u8], policy: &[u8], output: &mut [u8]) -> usize
-    ensures { Reported (holding rules.now) (holding policy.now) output.old output.new result }
+fn report_texts(rules: &[u8], policy: &[u8], output: &mut Output)
+    ensures { FilesPut (holding rules.now) (holding policy.now) output.old output.new }
 {
-    let table = rule_text::read_rules(rules);
-    let refusal = table.refusal;
-    if refusal.number == 0 {
-        let asked = policy_text::read_policy(policy);
-        let other = asked.refusal;
-        if other.number == 0 {
-            return report_sets(table.rules, asked.policy, output);
-        }
-        return printing::put_refused(output, 0, b"policy.txt", other);
+    match rule_text::read_rules(rules) {
+        Err(refusal) => put_refused(b"rules.txt", refusal, output),
+        Ok(rules) => match policy_text::read_policy(policy) {
+            Err(refusal) => put_refused(b"policy.txt", refusal, output),
+            Ok(policy) => report_sets(rules, policy, output),
+        },
     }
-    printing::put_refused(output, 0, b"rules.txt", refusal)
+}
+
+// The line of a file that is refused.
+fn put_refused(name: &[u8], refusal: Refusal, output: &mut Output)
+    ensures { PutOn output.old (refused_line name.now (refusal_of refusal)) output.new }
+{
+    let number = refusal.reason.number();
+    printing::put_refused(output, name, number, refusal.line, refusal.field)
 }
 
 // The output for two sets: one chart serves the verdict and the listing.
-fn report_sets(rules: Rules, policy: Policy, output: &mut [u8]) -> usize
+fn report_sets(rules: Rules, policy: Policy, output: &mut Output)
     requires { InForm rules policy }
-    ensures { SetsPut rules policy output.old output.new result }
+    ensures { SetsPut rules policy output.old output.new }
 {
-    let mut words = [0u64; layout::WORDS];
-    let mut counts = [0usize; FIELDS];
-    let mut places = [0u64; layout::PLACES];
-    charts::chart(rules, policy, &mut words, &mut counts, &mut places);
-    let at = report_verdict(rules, policy, &words, &counts, &places, output);
-    report_listing(rules, policy, &words, &counts, &places, at, output)
+    let sets = ChartedSets::new(rules, policy);
+    sets.put_verdict(output);
+    sets.put_listing(output);
 }
 
-// The verdict.
-fn report_verdict(
+// Two sets with their chart: what is asked and done in each strip, how many strips each field has, and where they begin. That they are
+// charted is asked by the methods: a ghost field takes a proposition alone, and `Charted` tells the numbers too.
+#[derive(Drop)]
+struct ChartedSets {
     rules: Rules,
     policy: Policy,
-    words: &[u64],
-    counts: &[usize],
-    places: &[u64],
-    output: &mut [u8],
-) -> usize
-    requires limited { Limited rules policy }
-    requires charted { Charted rules policy words.now counts.now places.now }
-    ensures { VerdictPut rules policy output.old output.new result }
-{
-    let found = findings::verdict(rules, policy, words, counts, places);
-    let label = found.label;
-    let packet = found.packet;
-    let accept = found.accept_directive;
-    let deny = found.deny_directive;
-    printing::put_verdict(output, 0, label, accept, deny, packet)
+    words: [u64; layout::WORDS],
+    counts: [usize; FIELDS],
+    places: [u64; layout::PLACES],
 }
 
-// The total and the first blocks of the listing.
-fn report_listing(
-    rules: Rules,
-    policy: Policy,
-    words: &[u64],
-    counts: &[usize],
-    places: &[u64],
-    start: usize,
-    output: &mut [u8],
-) -> usize
-    requires limited { Limited rules policy }
-    requires charted { Charted rules policy words.now counts.now places.now }
-    ensures { ListingPut rules policy output.old start output.new result }
-{
-    let mut rows = [0u32; ROWS];
-    let total = findings::listing(rules, policy, words, counts, places, &mut rows);
-    let at = printing::put_total(output, start, total);
-    put_rows(&rows, shown(total), at, output)
+impl ChartedSets {
+    // Two sets in form, charted.
+    fn new(rules: Rules, policy: Policy) -> ChartedSets
+        requires { InForm rules policy }
+        ensures sets { (result.rules ≡ rules) × (result.policy ≡ policy) }
+        ensures charted { Charted rules policy result.words result.counts result.places }
+    {
+        let mut words = [0; layout::WORDS];
+        let mut counts = [0; FIELDS];
+        let mut places = [0; layout::PLACES];
+        charts::chart(rules, policy, &mut words, &mut counts, &mut places);
+        ChartedSets {
+            rules,
+            policy,
+            words,
+            counts,
+            places,
+        }
+    }
+
+    // The verdict.
+    fn put_verdict(&self, output: &mut Output)
+        requires limited { Limited self.now.rules self.now.policy }
+        requires charted { Charted self.now.rules self.now.policy self.now.words self.now.counts self.now.places }
+        ensures { VerdictPut self.now.rules self.now.policy output.old output.new }
+    {
+        match findings::verdict(
+            self.rules,
+            self.policy,
+            &self.words,
+            &self.counts,
+            &self.places,
+        ) {
+            Some(found) => {
+                let accept = found.accept_directive.unwrap_or(0);
+                let deny = found.deny_directive.unwrap_or(0);
+                printing::put_verdict(output, found.label, accept, deny, found.packet)
+            }
+            None => printing::put_verdict(output, Label::Good, 0, 0, Packet::LOWEST),
+        }
+    }
+
+    // The total and the first blocks of the listing.
+    fn put_listing(&self, output: &mut Output)
+        requires limited { Limited self.now.rules self.now.policy }
+        requires charted { Charted self.now.rules self.now.policy self.now.words self.now.counts self.now.places }
+        ensures { ListingPut self.now.rules self.now.policy output.old output.new }
+    {
+        let mut rows = [0; ROWS];
+        let total = findings::listing(
+            self.rules,
+            self.policy,
+            &self.words,
+            &self.counts,
+            &self.places,
+            &mut rows,
+        );
+        printing::put_total(output, total);
+        put_rows(&rows, shown(total), output);
+    }
 }
 
 // How many blocks of a listing are printed.
 fn shown(total: u64) -> usize
     ensures { result ≡ min total most_block_lines }
 {
-    if total < MOST_BLOCK_LINES as u64 {
-        return total as usize;
-    }
-    MOST_BLOCK_LINES
+    total.min(MOST_BLOCK_LINES as u64) as usize
 }
 
 // The first rows as lines.
-fn put_rows(rows: &[u32], count: usize, start: usize, output: &mut [u8]) -> usize
+fn put_rows(rows: &[u32], count: usize, output: &mut Output)
     requires { row_numbers * count ≤ length rows.now }
-    ensures { Put output.old start (row_lines rows.now count) output.new result }
+    ensures { PutOn output.old (row_lines rows.now count) output.new }
 {
-    let mut at = start;
-    let mut i: usize = 0;
-    while i < count {
-        at = put_row(rows, ROW * i, at, output);
-        i += 1;
+    for i in 0..count {
+        put_row(rows, ROW * i, output);
     }
-    at
 }
 
 // The row from a place on as a line.
-fn put_row(rows: &[u32], from: usize, start: usize, output: &mut [u8]) -> usize
+fn put_row(rows: &[u32], from: usize, output: &mut Output)
     requires { from + row_numbers ≤ length rows.now }
-    ensures { Put output.old start (row_line rows.now from) output.new result }
+    ensures { PutOn output.old (row_line rows.now from) output.new }
 {
     let kind = rows[from];
     let rule = rows[from + 1];
     let block = Block::of_bounds(bounds_at(rows, from + 2));
-    printing::put_block(output, start, kind, rule, block)
+    printing::put_block(output, kind, rule, block)
 }
 
 // The bounds of a block, from a place on.
@@ -159,8 +192,7 @@ fn bounds_at(rows: &[u32], from: usize) -> [u32; BOUNDS]
     requires { from + block_bounds ≤ length rows.now }
     ensures { result ≡ bounds_at rows.now from }
 {
-    let mut bounds = [0u32; BOUNDS];
-    let end = from + BOUNDS;
-    layout::write_numbers(&rows[from..end], 0, &mut bounds);
+    let mut bounds = [0; BOUNDS];
+    layout::write_numbers(&rows[from..from + BOUNDS], 0, &mut bounds);
     bounds
 }

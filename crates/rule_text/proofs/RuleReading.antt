@@ -3,6 +3,7 @@ use mathlib.Core.Bool.{Bool, true, false, cond}
 use mathlib.Core.List.{List, [], ◌∷◌, ◌++◌}
 use mathlib.Core.Path.{◌≡◌, refl, ap, sym, subst, ◌∙◌}
 use native.Mathlib.Omega.{arith}
+use Rattle.std.specs.Prelude.{Option, None, Some, Result, Ok, Err}
 use Prim.Native.Nat.{ℕ, ◌≤◌, ◌<◌}
 use borrow.Author.Tests.{leb-false}
 use denote.Ref.{Bor}
@@ -16,6 +17,7 @@ use Rattle.sets.specs.Empty.{zero_rule}
 use Rattle.sets.specs.Inner.{in_form}
 use Rattle.sets.specs.Vocabulary.{rule_of}
 use Rattle.sets.specs.Listed.{rule_set}
+use Rattle.sets.specs.declared.Reason.TheVariants.{UnknownWord}
 use Rattle.sets.specs.declared.Rule.{Rule}
 use Rattle.sets.specs.declared.Rules.{Rules}
 use Rattle.sets.proofs.Padding.{padded_set}
@@ -24,31 +26,32 @@ use Rattle.lines.specs.declared.Cursor.{Cursor}
 use Rattle.lines.proofs.Stepping.{found_bytes, found_after}
 use Rattle.texts.specs.Texts.{most_bytes, refusal, lines_of, Said, goes, stops, read_from}
 use Rattle.texts.proofs.Reading.{Reading, begun, stepped, halted, finished}
+use Rattle.records.specs.Readers.{refused}
 use Rattle.records.specs.Records.{skipped, named, read_record, on_record}
-use Rattle.records.specs.declared.RecordRead.TheVariants as common
-use Rattle.records.specs.declared.RecordRead.{RecordRead}
+use Rattle.records.specs.declared.FieldRefusal.{FieldRefusal}
+use Rattle.records.specs.declared.Record.{Record}
 use Rattle.records.proofs.Forming.{RecordInForm, read_record_in_form}
 use Rattle.rule_text.specs.Inner.{rule_added}
-use Rattle.rule_text.specs.RuleTexts.{rule_record, rule_line, on_rule_line, said_rule, all_rules, no_rules}
-use Rattle.rule_text.specs.declared.RuleLine.TheVariants.{Skipped, Is, Not}
-use Rattle.rule_text.specs.declared.RuleLine.{RuleLine}
+use Rattle.rule_text.specs.RuleTexts.{rule_record, says, rule_line, on_rule_line, said_rule, all_rules, no_rules}
 
 -- a rule that a line says came where there was room for it, and is in form
-abbrev pub SaidRight : ℕ → RuleLine → Type 0
-SaidRight count Skipped = Unit {0}
-SaidRight count (Is r) = (count < most_rules) × (in_form (rule_of r) ≡ true)
-SaidRight count (Not number field) = Unit {0}
+abbrev pub SaidRight : ℕ → Result (Option Rule) FieldRefusal → Type 0
+SaidRight count (Ok None) = Unit {0}
+SaidRight count (Ok (Some r)) = (count < most_rules) × (in_form (rule_of r) ≡ true)
+SaidRight count (Err r) = Unit {0}
 
 pub said_right : (count : ℕ) (line : List ℕ) → SaidRight count (rule_line count line)
 unfolding rule_line rule_record
-said_right count line = go (skipped line) (named (bytes "rule") line) (read_record (leb most_rules count) line) (read_record_in_form (leb most_rules count) line)
+said_right count line =
+    go (skipped line) (named (bytes "rule") line) (read_record (leb most_rules count) line) (read_record_in_form (leb most_rules count) line)
   where
-    go : (a b : Bool) (x : RecordRead) → RecordInForm (leb most_rules count) x
-        → SaidRight count (cond a Skipped (cond b (on_record x Not (λ e d. Is (record { action = e; block = d }))) (Not 3 1)))
+    go : (a b : Bool) (x : Result Record FieldRefusal) → RecordInForm (leb most_rules count) x
+        → SaidRight count
+        (cond a (Ok None) (cond b (says (on_record x Err (λ r. Ok (record { action = r.action; block = r.block })))) (Err (refused UnknownWord 1))))
     go true b x h = tt
     go false false x h = tt
-    go false true (common.Not number field) h = tt
-    go false true (common.Are e d) h = (leb-false most_rules count h.0, h.1)
+    go false true (Err r) h = tt
+    go false true (Ok r) h = (leb-false most_rules count h.0, h.1)
 
 -- an empty line says nothing
 pub says_nothing : (rs : List Rule) → said_rule rs [] ≡ goes rs
@@ -69,28 +72,28 @@ pub read_none : (t : List ℕ) (s : Rules) → s ≡ rule_set [] → Read t (rec
 read_none t s e = record { rs = []; is = e; reading = begun said_rule all_rules no_rules [] t }
 
 pub read_all : (t : List ℕ) (c : Cursor) (s : Rules) (h : Read t c s) → length t ≤ c.at
-    → record { refusal = refusal 0 0 0; rules = s } ≡ read_from said_rule all_rules no_rules 1 [] (lines_of t)
+    → Ok s ≡ read_from said_rule all_rules no_rules 1 [] (lines_of t)
 read_all t c s h out =
-    (λ i. record { refusal = refusal 0 0 0; rules = h.is i })
+    ap Ok h.is
     ∙ sym (finished said_rule all_rules no_rules says_nothing [] t c.at c.line h.rs h.reading out)
 
 -- one turn: the line that was found at the cursor says o
 module _ (text : Bor (List ℕ)) (c : Cursor) (s : Rules) (h : Read text.now c s) (fits : length text.now ≤ most_bytes)
     (inside : c.at < length text.now) (line : Bor (List ℕ)) (found : seen line ≡ shown text (line_from text.now c.at))
-    (o : RuleLine) (said : o ≡ rule_line s.count line.now) where
+    (o : Result (Option Rule) FieldRefusal) (said : o ≡ rule_line s.count line.now) where
   abbrev t : List ℕ
   t = text.now
 
   said_there : o ≡ rule_line s.count (line_at t c.at)
   said_there = said ∙ ap (rule_line s.count) (found_bytes text line c found)
 
-  abbrev then : RuleLine → Said (List Rule)
+  abbrev then : Result (Option Rule) FieldRefusal → Said (List Rule)
   then x = on_rule_line x (goes h.rs) (λ r. goes (h.rs ++ (r ∷ []))) stops
 
-  says : (o' : RuleLine) → o ≡ o' → said_rule h.rs (line_at t c.at) ≡ then o'
-  says o' e = ap then (ap (λ (x : Rules). rule_line x.count (line_at t c.at)) (sym h.is) ∙ sym said_there ∙ e)
+  reads : (o' : Result (Option Rule) FieldRefusal) → o ≡ o' → said_rule h.rs (line_at t c.at) ≡ then o'
+  reads o' e = ap then (ap (λ (x : Rules). rule_line x.count (line_at t c.at)) (sym h.is) ∙ sym said_there ∙ e)
 
-  pub has_room : (r : Rule) → o ≡ Is r → s.count < most_rules
+  pub has_room : (r : Rule) → o ≡ Ok (Some r) → s.count < most_rules
   has_room r e = (subst (SaidRight s.count) (sym said_there ∙ e) (said_right s.count (line_at t c.at))).0
 
   -- reading stands behind the line, which says these rules
@@ -100,17 +103,18 @@ module _ (text : Bor (List ℕ)) (c : Cursor) (s : Rules) (h : Read text.now c s
       let moved : c' ≡ cursor_after t c = found_after text line c found inside (omega arith) c' p in
       stepped said_rule all_rules no_rules says_nothing [] t c.at c.line h.rs h.reading fits inside c' moved rs e
 
-  pub read_skip : (c' : Cursor) → c' ≡ cursor_behind c (length line.now) → o ≡ Skipped → Read t c' s
-  read_skip c' p e = record { rs = h.rs; is = h.is; reading = read_on c' p h.rs (says Skipped e) }
+  pub read_skip : (c' : Cursor) → c' ≡ cursor_behind c (length line.now) → o ≡ Ok None → Read t c' s
+  read_skip c' p e = record { rs = h.rs; is = h.is; reading = read_on c' p h.rs (reads (Ok None) e) }
 
-  pub read_more : (c' : Cursor) (s' : Rules) (r : Rule) → c' ≡ cursor_behind c (length line.now) → s' ≡ rule_added s r → o ≡ Is r → Read t c' s'
+  pub read_more : (c' : Cursor) (s' : Rules) (r : Rule) → c' ≡ cursor_behind c (length line.now) → s' ≡ rule_added s r → o ≡ Ok (Some r) → Read t c' s'
   read_more c' s' r p q e =
       let count : s.count ≡ length h.rs = ap (λ (x : Rules). x.count) h.is in
       record {
         rs = h.rs ++ (r ∷ []);
         is = q ∙ ap (λ (x : Rules). rule_added x r) h.is ∙ added_is h.rs r (omega (arith, has_room r e));
-        reading = read_on c' p (h.rs ++ (r ∷ [])) (says (Is r) e);
+        reading = read_on c' p (h.rs ++ (r ∷ [])) (reads (Ok (Some r)) e);
       }
 
-  pub read_stop : (k f : ℕ) → o ≡ Not k f → read_from said_rule all_rules no_rules 1 [] (lines_of t) ≡ no_rules [] (refusal k c.line f)
-  read_stop k f e = halted said_rule all_rules no_rules says_nothing [] t c.at c.line h.rs h.reading inside k f (says (Not k f) e)
+  pub read_stop : (r : FieldRefusal) → o ≡ Err r
+      → read_from said_rule all_rules no_rules 1 [] (lines_of t) ≡ no_rules [] (refusal r.reason c.line r.field)
+  read_stop r e = halted said_rule all_rules no_rules says_nothing [] t c.at c.line h.rs h.reading inside r.reason r.field (reads (Err r) e)

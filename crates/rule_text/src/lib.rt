@@ -1,6 +1,6 @@
-// Reading a rule table. `read_rules` answers for every text: the rules in the order of their lines, or the first refusal by number,
-// line and field and the empty set. Its contract says that the answer is what specs/RuleTexts defines for the bytes. What was read
-// is in form and zero past its count (proofs/Formed).
+// Reading a rule table. `read_rules` answers for every text: the rules in the order of their lines, or the first refusal by reason,
+// line and field. Its contract says that the answer is what specs/RuleTexts defines for the bytes. What was read is in form and zero
+// past its count (proofs/Formed).
 
 #![tactic(auto)]
 
@@ -11,45 +11,21 @@ ghost use Rattle.rule_text.specs.Inner.{rule_added};
 ghost use Rattle.rule_text.specs.RuleTexts.{rule_record, rule_line, said_rule, all_rules, no_rules, read_rules};
 
 use lines::Cursor;
-use records::RecordRead;
-use sets::{MOST_RULES, Refusal, Rule, Rules};
-
-// What reading hands back: the refusal, all zeros if there is none, and the rules, none if there is one.
-#[derive(Clone, Copy)]
-pub struct RulesRead {
-    pub refusal: Refusal,
-    pub rules: Rules,
-}
-
-// What a line says: nothing, a rule, or the number and the field of a refusal.
-#[derive(Clone, Copy)]
-enum RuleLine {
-    Skipped,
-    Is(Rule),
-    Not(u32, u32),
-}
+use records::{FieldRefusal, Record};
+use sets::{MOST_RULES, Reason, Refusal, Rule, Rules};
 
 // What a rule text means.
-pub fn read_rules(text: &[u8]) -> RulesRead
+#[tactic(auto, using(texts::proofs::Reading::unrefused_fits), unfolding(crate::specs::RuleTexts::read_rules))]
+pub fn read_rules(text: &[u8]) -> Result<Rules, Refusal>
     ensures { result ≡ read_rules text.now }
 {
-    let refusal = texts::refuse_text(text);
-    if refusal.number == 0 {
-        return read_lines(text);
-    }
-    refuse(refusal)
+    texts::refuse_text(text)?;
+    read_lines(text)
 }
 
-// The answer to a refusal.
-fn refuse(refusal: Refusal) -> RulesRead
-    ensures { result ≡ no_rules [] refusal }
-{
-    let rules = Rules::empty();
-    RulesRead { refusal, rules }
-}
-
-// The lines of a text, one after another.
-fn read_lines(text: &[u8]) -> RulesRead
+// The lines of a text, one after another. The loop goes from cursor to cursor, as the document reads, and is this reader's own, though
+// the policy's is like it: the laws of proofs/RuleReading and the wrong programs about lines left out or read again are about it.
+fn read_lines(text: &[u8]) -> Result<Rules, Refusal>
     requires { length text.now ≤ most_bytes }
     ensures { result ≡ read_from said_rule all_rules no_rules 1 [] (lines_of text.now) }
 {
@@ -61,55 +37,47 @@ fn read_lines(text: &[u8]) -> RulesRead
         let said = rule_line(found, rules.count);
         cursor = lines::behind(cursor.at, cursor.line, found.len());
         match said {
-            RuleLine::Skipped => {}
-            RuleLine::Is(rule) => {
-                rules = add_rule(rules, rule);
-            }
-            RuleLine::Not(number, field) => {
-                return refuse(Refusal {
-                    number,
-                    line,
-                    field,
-                });
-            }
+            Ok(None) => {}
+            Ok(Some(rule)) => add_rule(&mut rules, rule),
+            Err(refused) => return Err(refused.at_line(line)),
         }
     }
-    let refusal = Refusal::NONE;
-    RulesRead { refusal, rules }
+    Ok(rules)
 }
 
-// What a line says, after so many rules.
-fn rule_line(line: &[u8], count: usize) -> RuleLine
+// What a line says, after so many rules: nothing, or a rule.
+#[tactic(auto, unfolding(crate::specs::RuleTexts::rule_line))]
+fn rule_line(line: &[u8], count: usize) -> Result<Option<Rule>, FieldRefusal>
     ensures { result ≡ rule_line count line.now }
 {
     if records::is_skipped(line) {
-        return RuleLine::Skipped;
+        return Ok(None);
     }
     if records::is_named(line, b"rule") {
-        return rule_record(line, count);
+        let rule = rule_record(line, count)?;
+        return Ok(Some(rule));
     }
-    RuleLine::Not(3, 1)
+    Err(FieldRefusal {
+        reason: Reason::UnknownWord,
+        field: 1,
+    })
 }
 
 // A `rule` line, after so many rules.
-fn rule_record(line: &[u8], count: usize) -> RuleLine
+#[tactic(auto, unfolding(crate::specs::RuleTexts::rule_record))]
+fn rule_record(line: &[u8], count: usize) -> Result<Rule, FieldRefusal>
     ensures { result ≡ rule_record count line.now }
 {
     let full = MOST_RULES <= count;
-    match records::read_record(line, full) {
-        RecordRead::Are(action, block) => RuleLine::Is(Rule { action, block }),
-        RecordRead::Not(number, field) => RuleLine::Not(number, field),
-    }
+    let Record { action, block } = records::read_record(line, full)?;
+    Ok(Rule { action, block })
 }
 
-// The set with one rule more.
-fn add_rule(rules: Rules, rule: Rule) -> Rules
-    requires { rules.count < most_rules }
-    ensures { result ≡ rule_added rules rule }
+// One rule more in the set.
+fn add_rule(rules: &mut Rules, rule: Rule)
+    requires { rules.old.count < most_rules }
+    ensures { rules.new ≡ rule_added rules.old rule }
 {
-    let mut more = rules;
-    let n = more.count;
-    more.records[n] = rule;
-    more.count = n + 1;
-    more
+    rules.records[rules.count] = rule;
+    rules.count += 1;
 }

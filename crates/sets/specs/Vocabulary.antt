@@ -1,5 +1,5 @@
 -- What the types of this crate stand for in `meaning`.
-use Rattle.std.specs.Prelude.{map}
+use Rattle.std.specs.Prelude.{ℕ, map, Result, Ok, Err}
 use Rattle.meaning.specs.Form as form
 use Rattle.meaning.specs.Labels as labels
 use Rattle.meaning.specs.Rules as rules
@@ -11,6 +11,8 @@ use Rattle.sets.specs.declared.Exception.{Exception}
 use Rattle.sets.specs.declared.Label.TheVariants.{Good, Conflict, Wrong, Unasked, UnmetAccept, UnmetDeny}
 use Rattle.sets.specs.declared.Label.{Label}
 use Rattle.sets.specs.declared.Policy.{Policy}
+use Rattle.sets.specs.declared.Reason.TheVariants.{TooLong, Unended, UnknownWord, FieldCount, ActionUnread, AddressUnread, AddressUnfit, ProtocolUnread, PortUnread, RangeFalls, NoDirective, OutsideDirective, Full, OutOfForm}
+use Rattle.sets.specs.declared.Reason.{Reason}
 use Rattle.sets.specs.declared.Refusal.{Refusal}
 use Rattle.sets.specs.declared.Rule.{Rule}
 use Rattle.sets.specs.declared.Rules.{Rules}
@@ -50,5 +52,32 @@ label_of (Unasked n) = labels.unasked n
 label_of UnmetAccept = labels.unmet_accept
 label_of UnmetDeny = labels.unmet_deny
 
+-- the numbers of refusal
+abbrev pub reason_number : Reason → ℕ
+reason_number TooLong = 1
+reason_number Unended = 2
+reason_number UnknownWord = 3
+reason_number FieldCount = 4
+reason_number ActionUnread = 5
+reason_number AddressUnread = 6
+reason_number AddressUnfit = 7
+reason_number ProtocolUnread = 8
+reason_number PortUnread = 9
+reason_number RangeFalls = 10
+reason_number NoDirective = 11
+reason_number OutsideDirective = 12
+reason_number Full = 13
+reason_number OutOfForm = 14
+
 abbrev pub refusal_of : Refusal → form.Refusal
-refusal_of r = record { number = r.number; line = r.line; field = r.field }
+refusal_of r = record { number = reason_number r.reason; line = r.line; field = r.field }
+
+-- what an answer refuses: "A call not refused gives number, line and field 0"
+abbrev pub refused_of : {A : Type 0} → Result A Refusal → form.Refusal
+refused_of (Ok a) = form.unrefused
+refused_of (Err r) = refusal_of r
+
+-- what an answer hands back, where `zero` stands beside a refusal
+abbrev pub told_or : {A : Type 0} → A → Result A Refusal → A
+told_or zero (Ok a) = a
+told_or zero (Err r) = zero

@@ -6,7 +6,7 @@
 
 ghost use Rattle.std.specs.Prelude.{◌≡◌};
 ghost use Rattle.meaning.specs.Labels.{kind, rule};
-ghost use Rattle.sets.specs.Vocabulary.{label_of};
+ghost use Rattle.sets.specs.Vocabulary.{reason_number, label_of};
 ghost use Rattle.sets.specs.Empty.{empty_rules, empty_policy};
 
 use blocks::{Block, Span};
@@ -19,7 +19,7 @@ pub const MOST_DIRECTIVES: usize = 32;
 pub const MOST_EXCEPTIONS: usize = 64;
 
 // What a rule does, and what a directive asks for. Deny stands first: it is the zero record's action.
-#[derive(Clone, Copy)]
+#[derive(Clone, Copy, PartialEq, Eq)]
 pub enum Action {
     Deny,
     Accept,
@@ -61,7 +61,7 @@ pub struct Policy {
 }
 
 // A packet's label. Wrong and Unasked carry the number of the deciding rule.
-#[derive(Clone, Copy)]
+#[derive(Clone, Copy, PartialEq, Eq)]
 pub enum Label {
     Good,
     Conflict,
@@ -71,10 +71,30 @@ pub enum Label {
     UnmetDeny,
 }
 
-// Why a call gave no answer; all zeros if it gave one.
-#[derive(Clone, Copy)]
+// What is refused, numbered from 1 in this order.
+#[derive(Clone, Copy, PartialEq, Eq)]
+pub enum Reason {
+    TooLong,
+    Unended,
+    UnknownWord,
+    FieldCount,
+    ActionUnread,
+    AddressUnread,
+    AddressUnfit,
+    ProtocolUnread,
+    PortUnread,
+    RangeFalls,
+    NoDirective,
+    OutsideDirective,
+    Full,
+    OutOfForm,
+}
+
+// Why a call gave no answer, and where: a line and a field, each 0 where none is named. Out of form are the rules at line 1,
+// the policy at line 2, the packet at line 3.
+#[derive(Clone, Copy, PartialEq, Eq)]
 pub struct Refusal {
-    pub number: u32,
+    pub reason: Reason,
     pub line: u32,
     pub field: u32,
 }
@@ -128,13 +148,28 @@ impl Policy {
     }
 }
 
-impl Refusal {
-    // No refusal: all zeros.
-    pub const NONE: Refusal = Refusal {
-        number: 0,
-        line: 0,
-        field: 0,
-    };
+impl Reason {
+    // The number of the refusal.
+    pub fn number(self) -> u32
+        ensures { result ≡ reason_number self }
+    {
+        match self {
+            Reason::TooLong => 1,
+            Reason::Unended => 2,
+            Reason::UnknownWord => 3,
+            Reason::FieldCount => 4,
+            Reason::ActionUnread => 5,
+            Reason::AddressUnread => 6,
+            Reason::AddressUnfit => 7,
+            Reason::ProtocolUnread => 8,
+            Reason::PortUnread => 9,
+            Reason::RangeFalls => 10,
+            Reason::NoDirective => 11,
+            Reason::OutsideDirective => 12,
+            Reason::Full => 13,
+            Reason::OutOfForm => 14,
+        }
+    }
 }
 
 impl Label {

@@ -5,27 +5,32 @@ use mathlib.Core.Path.{◌≡◌, refl, ap, sym, subst, ◌∙◌}
 use native.Mathlib.Decide.{dec_lt}
 use native.Mathlib.Numerals.{add-one}
 use native.Mathlib.Omega.{arith}
+use Rattle.std.specs.Prelude.{Result, Ok, Err}
 use Prim.Native.Nat.{ℕ, suc, ◌+◌, ◌≤◌, ◌<◌}
 use borrow.Author.Tests.{ltb-false}
-use lib.Dec.{eqb, ltb}
+use lib.Dec.{ltb}
 use lib.ListN.{length, get_or, drop}
 use Rattle.parts.specs.Words.{newline}
 use Rattle.parts.proofs.Parting.{part_here, parts_next, parts_last, part_fits, at_end}
+use Rattle.sets.specs.declared.Reason.TheVariants.{TooLong, Unended}
+use Rattle.sets.specs.declared.Reason.{Reason}
 use Rattle.sets.specs.declared.Refusal.{Refusal}
 use Rattle.lines.specs.Reader.{line_at, cursor_after}
 use Rattle.lines.specs.declared.Cursor.{Cursor}
 use Rattle.lines.proofs.Stepping.{cursor_after_lem}
-use Rattle.texts.specs.Texts.{most_bytes, unended, refusal, refuse_text, lines_of, Said, goes, stops, on_said, read_from, read_text}
+use Rattle.texts.specs.Texts.{most_bytes, unended, refusal, refuse_text, lines_of, Said, goes, stops, on_said, on_text, read_from, read_text}
 
 -- a text that is not refused as a whole is not too long
-pub unrefused_fits : (t : List ℕ) → (refuse_text t).number ≡ 0 → length t ≤ most_bytes
+pub unrefused_fits : (t : List ℕ) → refuse_text t ≡ Ok tt → length t ≤ most_bytes
 unfolding refuse_text
-unrefused_fits t e = go (ltb most_bytes (length t)) refl (unended t) e
+unrefused_fits t e = go (ltb most_bytes (length t)) refl e
   where
-    go : (a : Bool) → ltb most_bytes (length t) ≡ a → (b : Bool)
-        → (cond a (refusal 1 0 0) (cond b (refusal 2 (length (lines_of t)) 0) (refusal 0 0 0))).number ≡ 0 → length t ≤ most_bytes
-    go true h b f = absurd (omega arith)
-    go false h b f = ltb-false most_bytes (length t) h
+    rest : Result (Unit {0}) Refusal
+    rest = cond (unended t) (Err (refusal Unended (length (lines_of t)) 0)) (Ok tt)
+
+    go : (a : Bool) → ltb most_bytes (length t) ≡ a → cond a (Err (refusal TooLong 0 0)) rest ≡ Ok tt → length t ≤ most_bytes
+    go true h f = cc
+    go false h f = ltb-false most_bytes (length t) h
 
 pub line_fits : (t : List ℕ) (at : ℕ) → at ≤ length t → at + length (line_at t at) ≤ length t
 line_fits t at h = part_fits newline t at (at + length (line_at t at)) refl h
@@ -33,7 +38,7 @@ line_fits t at h = part_fits newline t at (at + length (line_at t at)) refl h
 -- what is true of what is read, after a line that is not refused
 abbrev pub Keeps : {S : Type 0} → (S → Type 0) → Said S → Type 0
 Keeps Kept (goes s) = Kept s
-Keeps Kept (stops number field) = Unit {0}
+Keeps Kept (stops reason field) = Unit {0}
 
 module _ {S R : Type 0} (said : S → List ℕ → Said S) (all : S → R) (refused : S → Refusal → R) where
   abbrev from : ℕ → S → List (List ℕ) → R
@@ -54,9 +59,9 @@ module _ {S R : Type 0} (said : S → List ℕ → Said S) (all : S → R) (refu
     empty_last : (n : ℕ) (s : S) (l : List ℕ) → from n s (l ∷ []) ≡ from n s (l ∷ [] ∷ [])
     empty_last n s l = go (said s l)
       where
-        go : (o : Said S) → on_said o all (λ number field. refused s (refusal number n field))
-            ≡ on_said o (λ s'. on_said (said s' []) all (λ number field. refused s' (refusal number (suc n) field)))
-            (λ number field. refused s (refusal number n field))
+        go : (o : Said S) → on_said o all (λ reason field. refused s (refusal reason n field))
+            ≡ on_said o (λ s'. on_said (said s' []) all (λ reason field. refused s' (refusal reason (suc n) field)))
+            (λ reason field. refused s (refusal reason n field))
         go (goes s') = simp (nothing s')
         go (stops k f) = refl
 
@@ -91,7 +96,7 @@ module _ {S R : Type 0} (said : S → List ℕ → Said S) (all : S → R) (refu
                 ∙ simp e (ap (λ (m : ℕ). from m s' (lines_of (drop ((at + length (line_at t at)) + 1) t))) (sym (add-one line)));
           }
 
-      pub halted : at < length t → (k f : ℕ) → said s (line_at t at) ≡ stops k f → from 1 first (lines_of t) ≡ refused s (refusal k line f)
+      pub halted : at < length t → (k : Reason) (f : ℕ) → said s (line_at t at) ≡ stops k f → from 1 first (lines_of t) ≡ refused s (refusal k line f)
       halted inside k f e = h.rest_is ∙ line_first t at line s (omega arith) ∙ simp e
 
       -- the same with cursors, in a text that is not too long
@@ -114,22 +119,22 @@ module _ {S R : Type 0} (said : S → List ℕ → Said S) (all : S → R) (refu
       kept_from n s (l ∷ ls) h = go (λ s' k. kept_from (suc n) s' ls k) (said s l) (keep s l h)
         where
           go : ((s' : S) → Kept s' → Has (from (suc n) s' ls)) → (o : Said S) → Keeps Kept o
-              → Has (on_said o (λ s'. from (suc n) s' ls) (λ number field. refused s (refusal number n field)))
+              → Has (on_said o (λ s'. from (suc n) s' ls) (λ reason field. refused s (refusal reason n field)))
           go rest (goes s') k = rest s' k
-          go rest (stops number field) k = stopped s (refusal number n field)
+          go rest (stops reason field) k = stopped s (refusal reason n field)
 
       pub kept : (s : S) (t : List ℕ) → Kept s → Has (read_text said all refused s t)
-      kept s t h = go (eqb (refuse_text t).number 0)
+      kept s t h = go (refuse_text t)
         where
-          go : (b : Bool) → Has (cond b (from 1 s (lines_of t)) (refused s (refuse_text t)))
-          go true = kept_from 1 s (lines_of t) h
-          go false = stopped s (refuse_text t)
+          go : (o : Result (Unit {0}) Refusal) → Has (on_text o (refused s) (from 1 s (lines_of t)))
+          go (Ok u) = kept_from 1 s (lines_of t) h
+          go (Err r) = stopped s r
 
   -- what the answer at the end and the answer to each refusal have, the answer to the text has
   module _ (Has : R → Type 0) (done : (s : S) → Has (all s)) (stopped : (s : S) (r : Refusal) → Has (refused s r)) where
     anything : (o : Said S) → Keeps (λ (s : S). Unit {0}) o
     anything (goes s) = tt
-    anything (stops number field) = tt
+    anything (stops reason field) = tt
 
     pub answered : (s : S) (t : List ℕ) → Has (read_text said all refused s t)
     answered s t = kept (λ (s' : S). Unit {0}) Has (λ s' l h. anything (said s' l)) (λ s' h. done s') stopped s t tt

@@ -8,7 +8,7 @@ ghost use Rattle.std.specs.Prelude.{◌≡◌};
 ghost use Rattle.texts.specs.Texts.{unended, refuse_text};
 
 use lines::NEWLINE;
-use sets::Refusal;
+use sets::{Reason, Refusal};
 
 // The largest length of a text.
 pub const MOST_BYTES: usize = 32768;
@@ -17,32 +17,31 @@ pub const MOST_BYTES: usize = 32768;
 fn is_unended(text: &[u8]) -> bool
     ensures { result ≡ unended text.now }
 {
-    let n = text.len();
-    if 0 < n {
-        return text[n - 1] != NEWLINE;
+    match text {
+        [] => false,
+        [.., last] => *last != NEWLINE,
     }
-    false
 }
 
-// What is refused of a text as a whole: 1 if it is too long, 2 and its last line's number if that is not ended.
-pub fn refuse_text(text: &[u8]) -> Refusal
+// What is refused of a text as a whole: that it is too long, or that its last line, told by its number, is not ended.
+#[tactic(auto, using(parts::proofs::Parting::parts_few), unfolding(crate::specs::Texts::refuse_text))]
+pub fn refuse_text(text: &[u8]) -> Result<(), Refusal>
     ensures { result ≡ refuse_text text.now }
 {
     if MOST_BYTES < text.len() {
-        return Refusal {
-            number: 1,
+        return Err(Refusal {
+            reason: Reason::TooLong,
             line: 0,
             field: 0,
-        };
+        });
     }
     if is_unended(text) {
-        let lines = parts::count(text, NEWLINE);
-        let last = lines as u32;
-        return Refusal {
-            number: 2,
+        let last = parts::count(text, NEWLINE) as u32;
+        return Err(Refusal {
+            reason: Reason::Unended,
             line: last,
             field: 0,
-        };
+        });
     }
-    Refusal::NONE
+    Ok(())
 }

@@ -1,53 +1,143 @@
-// Answers as they are made in a buffer. Each function adds something behind the bytes that are there, as far as there is room,
-// and gives how many there are then.
+// The answers. An answer is a line of words and numbers, parted by one space; behind some, bytes and one more byte 10.
 
-use std::io::{Print, Result};
+ghost use Rattle.std.specs.Prelude.{◌≤◌, length};
 
-// Adds bytes.
-pub(crate) fn put_bytes(output: &mut [u8], start: usize, bytes: &[u8]) -> usize {
-    let mut at = start;
-    for i in 0..bytes.len() {
-        at = put_byte(output, at, bytes[i]);
+use crate::lending;
+use crate::requests::{Request, Texts};
+use crate::set_records::filled;
+use crate::shown::Shown;
+use lookup::Which;
+use sets::{MOST_DIRECTIVES, MOST_EXCEPTIONS, MOST_RULES, Policy, Refusal, Rules};
+use std::io;
+use std::io::Write;
+
+// The most times that a text is read.
+const MOST_TIMES: usize = 1_000_000;
+
+// Where answers are written.
+#[derive(Drop)]
+pub(crate) struct Answers<W> {
+    output: W,
+}
+
+impl<W: Write> Answers<W> {
+    // No answer yet.
+    pub(crate) fn new(output: W) -> Answers<W>
+    where
+        W: Drop,
+    {
+        Answers { output }
     }
-    at
-}
 
-// Adds numbers, one space before each.
-pub(crate) fn put_numbers(output: &mut [u8], start: usize, numbers: &[u32]) -> usize {
-    let mut at = start;
-    for i in 0..numbers.len() {
-        at = put_number(output, at, wide(numbers[i]));
+    // Makes the call that a request asks for, and writes what it gave.
+    pub(crate) fn answer(&mut self, request: Request<'_>) -> io::Result<()> {
+        match request {
+            Request::Rules { times, text } => self.tell_rules(read_often(text, times))?,
+            Request::Policy { text } => self.tell_policy(policy_text::read_policy(text))?,
+            Request::Field { number, line } => self.tell_bytes(
+                "field",
+                parts::field(line, number),
+            )?,
+            Request::Line {
+                which,
+                number,
+                texts,
+            } => self.tell_line(which, number, texts)?,
+            Request::Report {
+                readable,
+                room,
+                texts,
+            } => self.tell_report(readable, room, texts)?,
+            Request::Put {
+                call,
+                start,
+                payload,
+            } => self.tell_put(call, start, payload)?,
+        }
+        self.output.flush()
     }
-    at
-}
 
-// Adds a space and a number.
-pub(crate) fn put_number(output: &mut [u8], start: usize, number: u64) -> usize {
-    let mut digits = [0u8; 20];
-    let count = io::decimal(number, &mut digits);
-    let at = put_byte(output, start, b' ');
-    put_bytes(output, at, &digits[..count])
-}
-
-// Ends the answer and writes it to standard output.
-pub(crate) fn send(rt: &impl Print, output: &mut [u8], start: usize) -> Result<()> {
-    let length = put_byte(output, start, b'\n');
-    if length <= output.len() {
-        return rt.write_all(&output[0..length]);
+    // The refusal, the count, the rules, and how many records past the count are not zeros. Beside a refusal stands the empty set.
+    fn tell_rules(&mut self, read: Result<Rules, Refusal>) -> io::Result<()> {
+        let rules = read.unwrap_or(Rules::EMPTY);
+        let (told, past) = rules.records.split_at(rules.count.min(MOST_RULES));
+        writeln!(
+            self.output,
+            "rules{} {}{} past {}",
+            Shown(&read),
+            rules.count,
+            Shown(told),
+            filled(past)
+        )
     }
-    Ok(())
-}
 
-// Adds a byte.
-fn put_byte(output: &mut [u8], at: usize, byte: u8) -> usize {
-    if at < output.len() {
-        output[at] = byte;
-        return at + 1;
+    // The same of a policy, with two counts.
+    fn tell_policy(&mut self, read: Result<Policy, Refusal>) -> io::Result<()> {
+        let policy = read.unwrap_or(Policy::EMPTY);
+        let directive_count = policy.directive_count.min(MOST_DIRECTIVES);
+        let exception_count = policy.exception_count.min(MOST_EXCEPTIONS);
+        let (directives, directives_past) = policy.directives.split_at(directive_count);
+        let (exceptions, exceptions_past) = policy.exceptions.split_at(exception_count);
+        writeln!(
+            self.output,
+            "policy{} {} {}{}{} past {}",
+            Shown(&read),
+            policy.directive_count,
+            policy.exception_count,
+            Shown(directives),
+            Shown(exceptions),
+            filled(directives_past) + filled(exceptions_past)
+        )
     }
-    at
+
+    // The line of the record with this number in one of the texts.
+    fn tell_line(&mut self, which: Which, number: usize, texts: Texts<'_>) -> io::Result<()> {
+        let line = lookup::record_line(texts.rules, texts.policy, which, number);
+        self.tell_bytes("line", line)
+    }
+
+    // The place that the report gave, and the array after it.
+    fn tell_report(&mut self, readable: usize, room: usize, texts: Texts<'_>) -> io::Result<()> {
+        let mut bytes = lending::marked();
+        let place = lending::report(readable, room, texts, &mut bytes);
+        self.tell_array("report", place, &bytes)
+    }
+
+    // The place that a call of `puts` gave, and the array after it.
+    fn tell_put(&mut self, call: usize, start: usize, payload: &[u8]) -> io::Result<()> {
+        let mut bytes = lending::marked();
+        let place = lending::put(call, start, payload, &mut bytes);
+        self.tell_array("put", place, &bytes)
+    }
+
+    // How many bytes there are, and on the next line these.
+    fn tell_bytes(&mut self, word: &str, bytes: &[u8]) -> io::Result<()> {
+        self.tell_array(word, bytes.len(), bytes)
+    }
+
+    // A number, and on the next line bytes.
+    fn tell_array(&mut self, word: &str, number: usize, bytes: &[u8]) -> io::Result<()> {
+        writeln!(self.output, "{word} {number}")?;
+        self.output.write_all(bytes)?;
+        self.output.write_all(b"\n")
+    }
 }
 
-// The same number with more bits.
-fn wide(number: u32) -> u64 {
-    number as u64
+// The last of so many readings of a rule text, and of one at least. How much a turn reads depends on what the turn before
+// gave, though that is always the same; so no turn can be left out when the program is compiled.
+fn read_often(text: &[u8], times: usize) -> Result<Rules, Refusal> {
+    let first = rule_text::read_rules(text);
+    let mut read = first;
+    for _ in 1..times.min(MOST_TIMES) {
+        let length = length_if(text, read.is_ok() == first.is_ok());
+        read = rule_text::read_rules(&text[..length]);
+    }
+    read
+}
+
+// The length of a text if this holds, else 0.
+fn length_if(text: &[u8], holds: bool) -> usize
+    ensures { result ≤ length text.now }
+{
+    if holds { text.len() } else { 0 }
 }

@@ -11,78 +11,31 @@ mod arguments;
 mod input;
 mod lending;
 mod puts;
-mod replies;
 mod requests;
 mod set_records;
+mod shown;
 
-ghost use Rattle.std.specs.Prelude.{◌≡◌, ◌≤◌, length, IfOk, OnErr};
-
-use input::Unread;
-use requests::{MOST_PAYLOAD, Request};
-use std::io::{Input, Print, Result};
+use answers::Answers;
+use input::Stream;
+use requests::Request;
+use std::io;
+use std::io::{BufWriter, Result};
 
 // More requests than an input has; a bound, so that the program ends for every input.
-const MOST_REQUESTS: usize = 1000000;
+const MOST_REQUESTS: usize = 1_000_000;
 
-// Answers the requests on standard input.
+// Answers the requests on standard input in order.
 fn main(rt: HostRuntime) -> Result<()> {
-    let mut input = [0u8; 131072];
-    let mut output = [0u8; 131072];
-    serve(&rt, &mut input, &mut output)
-}
-
-// Answers the requests in order, with a buffer for what is read and one for an answer.
-fn serve(rt: &(impl Input + Print), input: &mut [u8], output: &mut [u8]) -> Result<()> {
-    let mut unread = Unread { start: 0, end: 0 };
+    let mut input = Stream::new(rt.alloc(), rt.reader())?;
+    let mut answers = Answers::new(BufWriter::new(rt.alloc(), io::writer(&rt))?);
     for _ in 0..MOST_REQUESTS {
-        unread = unread.refill(rt, input)?;
-        let start = unread.start;
-        let end = unread.end;
-        let taken = answer(rt, &input[start..end], output)?;
-        if taken == 0 {
+        input.refill()?;
+        let Some((request, rest)) = Request::read(input.unread()) else {
             return Ok(());
-        }
-        unread = Unread {
-            start: start + taken,
-            end,
         };
+        answers.answer(request)?;
+        let left = rest.len();
+        input.keep(left);
     }
     Ok(())
-}
-
-// Answers the request that the input starts with, and gives how many bytes it has: 0 if there is no whole request. The one error is that
-// of a write; other bytes may stand in the buffer for an answer then, as they do after an answer.
-fn answer(rt: &impl Print, input: &[u8], output: &mut [u8]) -> Result<usize>
-    ensures ok { IfOk result (λ taken. taken ≤ length input.now) }
-    ensures err { OnErr result (length output.new ≡ length output.old) }
-{
-    let request = Request::read(input);
-    let start = request.header;
-    if start == 0 {
-        return Ok(0);
-    }
-    let room = least(input.len() - start, MOST_PAYLOAD);
-    if room < request.length {
-        return Ok(0);
-    }
-    if room - request.length < request.other_length {
-        return Ok(0);
-    }
-    let middle = start + request.length;
-    let end = middle + request.other_length;
-    replies::reply(
-        rt,
-        request,
-        &input[start..middle],
-        &input[middle..end],
-        output,
-    )?;
-    Ok(end)
-}
-
-// The lesser of two numbers.
-fn least(a: usize, b: usize) -> usize
-    ensures { (result ≤ a) × (result ≤ b) }
-{
-    if a < b { a } else { b }
 }

@@ -1,34 +1,39 @@
-// The calls of `putting` and then of `printing` by number, in the order of their sources, with arguments from a payload.
+// The calls of `putting` and then of `printing`, with arguments from a payload.
 
-use crate::arguments;
-use sets::{Label, Refusal};
+use crate::arguments::Arguments;
+use putting::Output;
+use sets::Label;
 
-// How many bytes of a payload stand before a name: three numbers.
-const BEFORE_NAME: usize = 12;
-
-// The call with this number; the start if there is none.
-pub(crate) fn put(which: usize, output: &mut [u8], start: usize, payload: &[u8]) -> usize {
-    match which {
-        0 => putting::put_byte(output, start, arguments::byte(payload, 0)),
-        1 => putting::put_bytes(output, start, payload),
-        2 => putting::put_decimal(output, start, arguments::long_number(payload)),
-        3 => putting::put_quad(output, start, arguments::number(payload, 0)),
-        4 => put_verdict(output, start, payload),
-        5 => printing::put_total(output, start, arguments::long_number(payload)),
-        6 => put_block(output, start, payload),
-        7 => put_refused(output, start, payload),
-        8 => printing::put_unreadable(output, start, payload),
-        _ => start,
+// The call with this number, in the order of their sources; the start if there is none. A request names a call by its number, and
+// this is the one place where it is read, so an enum of the calls would be no plainer.
+pub(crate) fn put(call: usize, output: &mut [u8], start: usize, payload: &[u8]) -> usize {
+    let mut arguments = Arguments { rest: payload };
+    let mut output = Output {
+        bytes: output,
+        at: start,
+    };
+    match call {
+        0 => output.put_byte(arguments.byte()),
+        1 => output.put_bytes(payload),
+        2 => output.put_decimal(arguments.long_number()),
+        3 => output.put_quad(arguments.number()),
+        4 => put_verdict(&mut output, arguments),
+        5 => printing::put_total(&mut output, arguments.long_number()),
+        6 => put_block(&mut output, arguments),
+        7 => put_refused(&mut output, arguments),
+        8 => printing::put_unreadable(&mut output, payload),
+        _ => {}
     }
+    output.at
 }
 
-// The payload is kind, rule, the two directives and the packet.
-fn put_verdict(output: &mut [u8], start: usize, payload: &[u8]) -> usize {
-    let label = label(arguments::number(payload, 0), arguments::number(payload, 1));
-    let accept = arguments::number(payload, 2);
-    let deny = arguments::number(payload, 3);
-    let packet = arguments::packet(payload, 4);
-    printing::put_verdict(output, start, label, accept, deny, packet)
+// The arguments are kind, rule, the two directives and the packet.
+fn put_verdict(output: &mut Output, mut arguments: Arguments<'_>) {
+    let label = label(arguments.number(), arguments.number());
+    let accept = arguments.number();
+    let deny = arguments.number();
+    let packet = arguments.packet();
+    printing::put_verdict(output, label, accept, deny, packet)
 }
 
 // The label of a kind modulo 6, with this rule if it has one.
@@ -43,21 +48,18 @@ fn label(kind: u32, rule: u32) -> Label {
     }
 }
 
-// The payload is kind, rule and eight bounds.
-fn put_block(output: &mut [u8], start: usize, payload: &[u8]) -> usize {
-    let kind = arguments::number(payload, 0);
-    let rule = arguments::number(payload, 1);
-    let block = arguments::block(payload, 2);
-    printing::put_block(output, start, kind, rule, block)
+// The arguments are kind, rule and eight bounds.
+fn put_block(output: &mut Output, mut arguments: Arguments<'_>) {
+    let kind = arguments.number();
+    let rule = arguments.number();
+    let block = arguments.block();
+    printing::put_block(output, kind, rule, block)
 }
 
-// The payload is number, line and field, then the name.
-fn put_refused(output: &mut [u8], start: usize, payload: &[u8]) -> usize {
-    let refusal = Refusal {
-        number: arguments::number(payload, 0),
-        line: arguments::number(payload, 1),
-        field: arguments::number(payload, 2),
-    };
-    let name = crate::least(BEFORE_NAME, payload.len());
-    printing::put_refused(output, start, &payload[name..], refusal)
+// The arguments are number, line and field, then the name.
+fn put_refused(output: &mut Output, mut arguments: Arguments<'_>) {
+    let number = arguments.number();
+    let line = arguments.number();
+    let field = arguments.number();
+    printing::put_refused(output, arguments.rest, number, line, field)
 }

@@ -12,67 +12,35 @@ use std::io;
 use std::io::{Eprint, Print, Read};
 use std::rt::Files;
 
-// How much was read of a file, and whether it could be read.
-#[derive(Clone, Copy)]
-struct FileRead {
-    is_read: bool,
-    length: usize,
-}
-
-// Reads the two files and prints.
-fn main(rt: HostRuntime) {
-    let mut rules = [0u8; MOST_READ];
-    let mut policy = [0u8; MOST_READ];
-    let mut output = [0u8; MOST_OUTPUT];
-    run(&rt, &mut rules, &mut policy, &mut output);
-}
-
 // Reads the two files and prints, with a buffer for each and one for the output.
-fn run(
-    rt: &(impl Files + Print + Eprint + Alloc),
-    rules: &mut [u8],
-    policy: &mut [u8],
-    output: &mut [u8],
-) {
-    let table = read_file(rt, "rules.txt", rules);
-    let asked = read_file(rt, "policy.txt", policy);
-    let table_end = table.length;
-    let asked_end = asked.length;
-    let length = report::report(
-        table.is_read,
-        &rules[..table_end],
-        asked.is_read,
-        &policy[..asked_end],
-        output,
-    );
-    if length <= output.len() {
-        write(rt, &output[..length]);
-    }
+fn main(rt: HostRuntime) {
+    let mut rules = [0; MOST_READ];
+    let mut policy = [0; MOST_READ];
+    let mut output = [0; MOST_OUTPUT];
+    let table = read_file(&rt, "rules.txt", &mut rules);
+    let asked = read_file(&rt, "policy.txt", &mut policy);
+    let length = report::report(table, asked, &mut output);
+    write(&rt, &output[..length]);
 }
 
 // Writes to standard output; if that fails, standard error has why.
 fn write(rt: &(impl Print + Eprint + Alloc), output: &[u8]) {
-    match rt.write_all(output) {
-        Ok(()) => {}
-        Err(error) => fail(rt, "standard output", error),
+    if let Err(error) = rt.write_all(output) {
+        fail(rt, "standard output", error);
     }
 }
 
 // Reads a file, or as much of it as the buffer takes. If it cannot be read, standard error has why.
-fn read_file(rt: &(impl Files + Eprint + Alloc), name: &str, buffer: &mut [u8]) -> FileRead
-    ensures { result.length ≤ length buffer.new }
-{
+fn read_file<'a>(
+    rt: &(impl Files + Eprint + Alloc),
+    name: &str,
+    buffer: &'a mut [u8],
+) -> Option<&'a [u8]> {
     match open_and_read(rt, name, buffer) {
-        Ok(length) => FileRead {
-            is_read: true,
-            length,
-        },
+        Ok(length) => Some(&buffer[..length]),
         Err(error) => {
             fail(rt, name, error);
-            FileRead {
-                is_read: false,
-                length: 0,
-            }
+            None
         }
     }
 }
@@ -88,7 +56,8 @@ fn open_and_read(rt: &impl Files, name: &str, buffer: &mut [u8]) -> io::Result<u
 }
 
 // Reads what is left of an open file, or as much of it as the buffer takes, and gives how much that is. The one error is that of a read;
-// other bytes may stand in the buffer then.
+// other bytes may stand in the buffer then. The loop is written out: std reads to the end of a file only into a `Vec`, and the gateway
+// box is small, so the buffers are fixed.
 fn read_all(file: &mut impl Read, buffer: &mut [u8]) -> io::Result<usize>
     ensures ok { IfOk result (λ end. end ≤ length buffer.new) }
     ensures err { OnErr result (length buffer.new ≡ length buffer.old) }
@@ -114,8 +83,6 @@ fn fail(rt: &(impl Eprint + Alloc), what: &str, error: io::Error) {
 
 // The system's reason without its number, which an error's text adds.
 fn reason(text: &str) -> &str {
-    match text.split_once(" (os error ") {
-        Some((reason, _)) => reason,
-        None => text,
-    }
+    text.split_once(" (os error ")
+        .map_or(text, |(reason, _)| reason)
 }

@@ -1,5 +1,6 @@
 -- By the widest block. Assumes nothing.
 use mathlib.Core.Path.{◌∙◌, ap}
+use Prim.Native.Nat.{ℕ, ◌+◌}
 use Rattle.meaning.specs.Buffers.{bounds}
 use Rattle.charts.proofs.FieldSizes.{size_is}
 use Rattle.charts.proofs.size_of.Goals as goal
@@ -7,4 +8,4 @@ use Rattle.charts.proofs.size_of.Goals as goal
 pub returns : goal.returns
 returns c =
     let widest = c.bounds-widest.ensures ∙ ap bounds c.widest.ensures in
-    c.number_above.ensures ∙ size_is _ _ widest c.requires
+    ap (λ (high : ℕ). high + 1) c.from.ensures ∙ size_is _ _ widest c.requires

@@ -1,29 +1,33 @@
 -- Each test is made in turn, and the first that fails settles it. Assumes nothing.
-use mathlib.Core.Path.{◌∙◌}
 use native.Mathlib.Omega.{arith}
-use borrow.Author.Tests.{le-leb, lt-leb}
-use Rattle.meaning.specs.Form.{policy_in_form, most_directives, most_exceptions}
+use mathlib.Core.Path.{sym, ◌∙◌}
+use borrow.Author.Rules.{rules}
+use lib.ListN.{take}
+use Rattle.std.proofs.lemmas.Iterator.{YieldsList-from_slice}
+use Rattle.std.proofs.lemmas.Iterator.Search.{all_from_yields_List}
+use Rattle.sets.specs.declared.Directive.{Directive}
+use Rattle.sets.specs.Vocabulary.{directive_of}
+use Rattle.sets.specs.Inner.{in_form}
+use Rattle.form.proofs.Records.{many_directives, many_exceptions, policy_within}
 use Rattle.form.proofs.policy_in_form.Goals as goal
 
 pub returns-then-policy-gt-MOST_DIRECTIVES : goal.returns-then-policy-gt-MOST_DIRECTIVES
-unfolding policy_in_form
-returns-then-policy-gt-MOST_DIRECTIVES c = simp (lt-leb c.args.policy.directive_count most_directives (omega arith))
+returns-then-policy-gt-MOST_DIRECTIVES c = grind (arith, many_directives, many_exceptions)
 
-pub returns-then-policy-gt-MOST_EXCEPTIONS : goal.returns-then-policy-gt-MOST_EXCEPTIONS
-unfolding policy_in_form
-returns-then-policy-gt-MOST_EXCEPTIONS c =
-    let policy = c.args.policy in
-    simp (le-leb policy.directive_count most_directives (omega arith), lt-leb policy.exception_count most_exceptions (omega arith))
+pub returns-then-all : goal.returns-then-all
+returns-then-all c =
+    let s = c.args.policy in
+    let all =
+    all_from_yields_List (λ (d : Directive). in_form (directive_of d)) _ _ _ c.all.ensures.ran
+    (YieldsList-from_slice (take s.directive_count s.directives) (search rules)) (λ x b q k. search rules) in
+    let passed = sym all ∙ c.if-all.true in
+    c.exceptions_in_form.ensures ∙ sym (policy_within s c.if-policy-gt-MOST_DIRECTIVES.false c.if-policy-gt-MOST_EXCEPTIONS.false ∙ simp passed)
 
-pub returns-then-directives_in_form : goal.returns-then-directives_in_form
-unfolding policy_in_form
-returns-then-directives_in_form c =
-    let policy = c.args.policy in
-    c.exceptions_in_form.ensures
-    ∙ simp (le-leb policy.directive_count most_directives (omega arith), le-leb policy.exception_count most_exceptions (omega arith), ← c.directives_in_form.ensures, c.if-directives_in_form.true)
-
-pub returns-else-directives_in_form : goal.returns-else-directives_in_form
-unfolding policy_in_form
-returns-else-directives_in_form c =
-    let policy = c.args.policy in
-    simp (le-leb policy.directive_count most_directives (omega arith), le-leb policy.exception_count most_exceptions (omega arith), ← c.directives_in_form.ensures, c.if-directives_in_form.false)
+pub returns-else-all : goal.returns-else-all
+returns-else-all c =
+    let s = c.args.policy in
+    let all =
+    all_from_yields_List (λ (d : Directive). in_form (directive_of d)) _ _ _ c.all.ensures.ran
+    (YieldsList-from_slice (take s.directive_count s.directives) (search rules)) (λ x b q k. search rules) in
+    let failed = sym all ∙ c.if-all.false in
+    c.if-all.false ∙ sym (policy_within s c.if-policy-gt-MOST_DIRECTIVES.false c.if-policy-gt-MOST_EXCEPTIONS.false ∙ simp failed)

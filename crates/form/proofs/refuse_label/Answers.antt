@@ -1,13 +1,18 @@
 -- The first refusal is told. Assumes nothing.
-use mathlib.Core.Path.{◌∙◌, sym}
+use mathlib.Core.Path.{◌≡◌, ap, sym, ◌∙◌}
+use borrow.Author.Rules.{rules}
+use Rattle.std.specs.Prelude.{Err}
 use Rattle.meaning.specs.Form.{refuse_label}
+use Rattle.sets.specs.Vocabulary.{refused_of}
 use Rattle.form.proofs.Orders.{first_passed, first_told}
 use Rattle.form.proofs.refuse_label.Goals as goal
 
-pub returns-then-refusal-eq0 : goal.returns-then-refusal-eq0
+pub returns-in_err-refuse_sets : goal.returns-in_err-refuse_sets
 unfolding refuse_label
-returns-then-refusal-eq0 c = c.refuse_packet.ensures ∙ sym (first_passed _ _ _ c.refuse_sets-refusal.ensures c.if-refusal-eq0.true)
+returns-in_err-refuse_sets c =
+    let told : c.from_residual.result ≡ Err c.in_err-refuse_sets.field-0.0 = search rules in
+    ap refused_of told ∙ sym (first_told _ _ _ c.refuse_sets.ensures _ c.in_err-refuse_sets.was)
 
-pub returns-else-refusal-eq0 : goal.returns-else-refusal-eq0
+pub returns : goal.returns
 unfolding refuse_label
-returns-else-refusal-eq0 c = sym (first_told _ _ _ c.refuse_sets-refusal.ensures c.if-refusal-eq0.false)
+returns c = c.refuse_packet.ensures ∙ sym (first_passed _ _ _ c.refuse_sets.ensures _ c.in_ok-refuse_sets.was)

@@ -1,39 +1,26 @@
-use mathlib.Core.Path.{◌≡◌, sym, ◌∙◌}
-use native.Mathlib.Omega.{arith}
+-- The set is in form just if its count is within the limit, and all rules within it are. Assumes nothing.
+use mathlib.Core.Path.{sym, ◌∙◌}
+use borrow.Author.Rules.{rules}
 use borrow.Author.Tests.{le-leb, lt-leb}
-use lib.ListN.{length}
-use Rattle.meaning.specs.Form.{rules_in_form, most_rules}
-use Rattle.sets.specs.Empty.{zero_rule}
-use Rattle.sets.specs.Inner.{in_form}
+use lib.ListN.{take}
+use Rattle.std.proofs.lemmas.Iterator.{YieldsList-from_slice}
+use Rattle.std.proofs.lemmas.Iterator.Search.{all_from_yields_List}
+use Rattle.std.proofs.lemmas.List.{take-map}
+use Rattle.meaning.specs.Form.{rules_in_form}
+use Rattle.sets.specs.declared.Rule.{Rule}
 use Rattle.sets.specs.Vocabulary.{rule_of}
-use Rattle.sets.proofs.Walks.{all_next, all_stop, all_over, length_of_map}
+use Rattle.sets.specs.Inner.{in_form}
+use Rattle.form.proofs.Records.{all_mapped}
 use Rattle.form.proofs.rules_in_form.Goals as goal
 
-pub returns-then-rules-gt-MOST_RULES : goal.returns-then-rules-gt-MOST_RULES
+pub returns-then-rules-le-MOST_RULES : goal.returns-then-rules-le-MOST_RULES
 unfolding rules_in_form
-returns-then-rules-gt-MOST_RULES c = simp (lt-leb c.args.rules.count most_rules (omega arith))
+returns-then-rules-le-MOST_RULES c =
+    let s = c.args.rules in
+    all_from_yields_List (λ (r : Rule). in_form (rule_of r)) _ _ _ c.all.ensures.ran
+    (YieldsList-from_slice (take s.count s.records) (search rules)) (λ x b q k. search rules)
+    ∙ sym (simp (le-leb _ _ c.if-rules-le-MOST_RULES.true, take-map rule_of, all_mapped rule_of in_form))
 
-pub loop-i-init : goal.loop-i-init
+pub returns-else-rules-le-MOST_RULES : goal.returns-else-rules-le-MOST_RULES
 unfolding rules_in_form
-loop-i-init c = simp (le-leb c.args.rules.count most_rules (omega arith))
-
-pub loop-i-preserved : goal.loop-i-preserved
-loop-i-preserved c =
-    let rules = c.args.rules in
-    let full : length rules.records ≡ most_rules = search (rules, length_of_map) in
-    c.loop-i.invariant
-    ∙ all_next rule_of rules.records rules.count in_form c.loop-i.i zero_rule (omega arith) (omega arith) (sym c.in_form.ensures ∙ c.if-in_form.true)
-
-pub returns-else-in_form : goal.returns-else-in_form
-returns-else-in_form c =
-    let rules = c.args.rules in
-    let full : length rules.records ≡ most_rules = search (rules, length_of_map) in
-    sym
-    (c.loop-i.invariant
-    ∙ all_stop rule_of rules.records rules.count in_form c.loop-i.i zero_rule (omega arith) (omega arith) (sym c.in_form.ensures ∙ c.if-in_form.false))
-
-pub returns : goal.returns
-returns c =
-    let rules = c.args.rules in
-    let full : length rules.records ≡ most_rules = search (rules, length_of_map) in
-    sym (c.loop-i.invariant ∙ all_over rule_of rules.records rules.count in_form c.loop-i.i (omega arith))
+returns-else-rules-le-MOST_RULES c = simp (lt-leb _ _ c.if-rules-le-MOST_RULES.false)

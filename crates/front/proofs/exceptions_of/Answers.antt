@@ -1,31 +1,14 @@
-use mathlib.Core.Path.{◌≡◌}
-use native.Mathlib.Omega.{arith}
+-- The mask of the exceptions within their count. Assumes nothing.
 use borrow.Author.Rules.{rules}
-use lib.ListN.{length}
-use Rattle.meaning.specs.Form.{most_exceptions}
-use Rattle.sets.proofs.Walks.{length_of_map}
-use Rattle.front.proofs.MaskWalk.{mask_end, mask_more, mask_room, mask_start}
+use lib.Dec.{eqb}
+use Rattle.meaning.specs.Form.{Exception}
+use Rattle.sets.specs.Vocabulary.{exception_of}
+use Rattle.front.proofs.MaskWithin.{mask_within}
 use Rattle.front.proofs.exceptions_of.Goals as goal
 
-pub loop-i-init : goal.loop-i-init
-loop-i-init c = mask_start _ _ _ _
-
-pub overflow_mul-mask : goal.overflow_mul-mask
-overflow_mul-mask c =
-    let full : length c.args.policy.exceptions ≡ most_exceptions = search (rules, length_of_map) in
-    let room = mask_room _ _ _ _ (omega arith) _ _ _ _ (omega arith) c.loop-i.invariant c.named.ensures (omega arith) in
-    omega (arith, room)
-
-pub overflow_add-mask : goal.overflow_add-mask
-overflow_add-mask c =
-    let full : length c.args.policy.exceptions ≡ most_exceptions = search (rules, length_of_map) in
-    let room = mask_room _ _ _ _ (omega arith) _ _ _ _ (omega arith) c.loop-i.invariant c.named.ensures (omega arith) in
-    omega (arith, room)
-
-pub loop-i-preserved : goal.loop-i-preserved
-loop-i-preserved c =
-    let full : length c.args.policy.exceptions ≡ most_exceptions = search (rules, length_of_map) in
-    mask_more _ _ _ _ (omega arith) _ _ _ _ (omega arith) c.loop-i.invariant c.named.ensures
-
 pub returns : goal.returns
-returns c = mask_end _ _ _ _ (omega arith) c.loop-i.invariant
+returns c =
+    let policy = c.args.policy in
+    let number = c.args.number in
+    mask_within exception_of (λ (e : Exception). eqb e.directive number) policy.exceptions policy.exception_count
+    (c.mask.ensures (λ e. eqb e.directive number) (λ e b gave. search rules))

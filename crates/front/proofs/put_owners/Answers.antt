@@ -1,8 +1,5 @@
-use Rattle.front.proofs.FrontWords.{owners_end, owners_more, owners_start}
+use Rattle.front.proofs.FrontWords.{owners_end, owners_more}
 use Rattle.front.proofs.put_owners.Goals as goal
-
-pub loop-i-init : goal.loop-i-init
-loop-i-init c = owners_start _ _ _
 
 pub loop-i-preserved : goal.loop-i-preserved
 loop-i-preserved c = owners_more _ _ _ _ _ _ c.loop-i-test.true c.exceptions_of.ensures c.loop-i.invariant

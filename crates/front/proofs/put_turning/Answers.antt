@@ -1,32 +1,55 @@
-use mathlib.Core.Path.{◌≡◌}
+use mathlib.Core.List.{List}
+use mathlib.Core.Path.{◌≡◌, sym, ap, ◌∙◌}
+use Prim.Native.Nat.{ℕ, ◌-◌, ◌<◌}
 use native.Mathlib.Omega.{arith}
 use borrow.Author.Rules.{rules}
-use lib.ListN.{length}
+use lib.ListN.{length, take, drop, length-drop}
+use lib.Seq.{get_or-drop, length-take-le, take_all}
+use Rattle.std.proofs.lemmas.List.{length_push}
+use Rattle.std.proofs.lemmas.Slice.Zip.{zip_turn}
+use Rattle.std.specs.Iterator.Adapters.{zip_second}
+use Rattle.std.specs.Slice.Iter.{iter_rest}
 use Rattle.meaning.specs.Form.{most_directives}
+use Rattle.meaning.specs.Sizes.{first_owner}
 use Rattle.sets.proofs.Walks.{length_of_map}
-use Rattle.sets.specs.Vocabulary.{directive_of}
-use Rattle.front.proofs.FrontWords.{turned_accept, turned_deny, turned_end, turned_start}
-use Rattle.bounds.proofs.Within.{length_within}
+use Rattle.front.proofs.FrontWords.{turned_accept, turned_deny, turned_start}
 use Rattle.front.proofs.put_turning.Goals as goal
 
-pub loop-i-init : goal.loop-i-init
-loop-i-init c = turned_start _
+-- what stands behind the first words
+behind : (at : ℕ) (words : List ℕ) → take (length words - at) (drop at words) ≡ drop at words
+behind at words = take_all (length words - at) (drop at words) (omega (arith, length-drop at words))
 
-pub loop-i-preserved-then-accepting-eq1 : goal.loop-i-preserved-then-accepting-eq1
-loop-i-preserved-then-accepting-eq1 c =
-    let below = c.loop-i-test.true in
-    let full : length c.args.policy.directives ≡ most_directives = search (rules, length_of_map) in
-    turned_accept _ (omega arith) _ _ _ _ _ below (c.requires.2 _ below) c.loop-i.invariant c.accepting.ensures c.if-accepting-eq1.true
+pub loop-directive-init : goal.loop-directive-init
+loop-directive-init c = turned_start _
 
-pub loop-i-preserved : goal.loop-i-preserved
-loop-i-preserved c =
-    let below = c.loop-i-test.true in
-    let full : length c.args.policy.directives ≡ most_directives = search (rules, length_of_map) in
-    turned_deny _ (omega arith) _ _ _ _ _ below (c.requires.2 _ below) c.loop-i.invariant c.accepting.ensures c.if-accepting-eq1.false
-
-pub returns : goal.returns
-returns c =
+pub loop-directive-preserved-then-accepts : goal.loop-directive-preserved-then-accepts
+loop-directive-preserved-then-accepts c =
     let policy = c.args.policy in
+    let words = c.args.words.now in
     let full : length policy.directives ≡ most_directives = search (rules, length_of_map) in
-    let long = length_within directive_of policy.directives policy.directive_count (omega arith) in
-    turned_end _ (omega (arith, long)) c.loop-i.invariant
+    let so_many = length-take-le policy.directive_count policy.directives (omega (arith, full)) in
+    let turn =
+    zip_turn (take policy.directive_count policy.directives) (drop first_owner words) _ _ c.loop-directive.directive-iterator c.next.new.self _ (cc)
+    (ap (λ z. iter_rest (zip_second z)) c.into_iter-directive-iterator.ensures.into_iter_gives ∙ c.zip-directive-items.ensures.second.0 ∙ behind first_owner words)
+    c.loop-directive.yielded_by _ c.in-Some.is c.next.ensures.steps in
+    let i = length c.loop-directive.yielded in
+    let below : i < policy.directive_count = omega (arith, turn.0, so_many) in
+    let own = turn.3 0 ∙ get_or-drop first_owner words i 0 ∙ c.requires.2 i below in
+    rw (length_push c.loop-directive.yielded (c.in-Some.directive, c.in-Some.own))
+    (turned_accept policy (omega (arith, full)) i _ _ _ _ below (turn.2 _) own c.loop-directive.invariant (sym c.accepts.ensures ∙ c.if-accepts.true))
+
+pub loop-directive-preserved : goal.loop-directive-preserved
+loop-directive-preserved c =
+    let policy = c.args.policy in
+    let words = c.args.words.now in
+    let full : length policy.directives ≡ most_directives = search (rules, length_of_map) in
+    let so_many = length-take-le policy.directive_count policy.directives (omega (arith, full)) in
+    let turn =
+    zip_turn (take policy.directive_count policy.directives) (drop first_owner words) _ _ c.loop-directive.directive-iterator c.next.new.self _ (cc)
+    (ap (λ z. iter_rest (zip_second z)) c.into_iter-directive-iterator.ensures.into_iter_gives ∙ c.zip-directive-items.ensures.second.0 ∙ behind first_owner words)
+    c.loop-directive.yielded_by _ c.in-Some.is c.next.ensures.steps in
+    let i = length c.loop-directive.yielded in
+    let below : i < policy.directive_count = omega (arith, turn.0, so_many) in
+    let own = turn.3 0 ∙ get_or-drop first_owner words i 0 ∙ c.requires.2 i below in
+    rw (length_push c.loop-directive.yielded (c.in-Some.directive, c.in-Some.own))
+    (turned_deny policy (omega (arith, full)) i _ _ _ _ below (turn.2 _) own c.loop-directive.invariant (sym c.accepts.ensures ∙ c.if-accepts.false))

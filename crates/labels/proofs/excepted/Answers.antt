@@ -1,50 +1,46 @@
-use mathlib.Core.Bool.{true}
-use mathlib.Core.List.{List}
-use mathlib.Core.Path.{subst, subst⁻¹, ◌≡◌}
-use native.Mathlib.Omega.{arith}
-use Prim.Native.Nat.{ℕ, ◌+◌, ◌<◌}
+use mathlib.Core.Bool.{Bool, false}
+use mathlib.Core.List.{List, map}
+use mathlib.Core.Path.{◌≡◌, subst, subst⁻¹}
+use Prim.Native.Nat.{◌+◌}
 use borrow.Author.Rules.{rules}
-use lib.ListN.{length, drop, get_or, set}
-use Rattle.meaning.specs.Form.{Exception, most_exceptions}
+use lib.ListN.{length, take, drop, replicate}
+use Rattle.meaning.specs.Form.{Exception, most_directives, most_exceptions}
 use Rattle.blocks.specs.Vocabulary.{packet_of}
 use Rattle.sets.specs.Empty.{zero_exception}
 use Rattle.sets.specs.Inner.{exceptions_of}
 use Rattle.sets.specs.Vocabulary.{exception_of}
-use Rattle.sets.proofs.Walks.{next, over, length_of_map}
-use Rattle.labels.proofs.Marks.{excepted_within, Marked, marked_start, marked_more, marked_end}
+use Rattle.sets.proofs.Walks.{length_of_map}
+use Rattle.labels.proofs.Marks.{Marked, marked_start, marked_none, marked_some, marked_end}
+use Rattle.labels.proofs.Records.{within_count, next, none_left}
 use Rattle.labels.proofs.excepted.Goals as goal
+use Rattle.labels.proofs.excepted.Goals.{in-Some, in_default}
 
-pub loop-i-init : goal.loop-i-init
-loop-i-init c = marked_start (packet_of c.args.packet) (exceptions_of c.args.policy)
+pub loop-exception-init : goal.loop-exception-init
+loop-exception-init c =
+    let s = c.args.policy in
+    let full : length s.exceptions ≡ most_exceptions = search (rules, length_of_map) in
+    let held = within_count exception_of s.exceptions s.exception_count c.min.result most_exceptions full c.min.ensures in
+    subst (λ (es : List Exception). Marked (packet_of c.args.packet) (exceptions_of s) es (replicate most_directives false)) held
+    (marked_start (packet_of c.args.packet) (exceptions_of s))
 
-pub bounds-marks-number : goal.bounds-marks-number
-bounds-marks-number c =
-    let args = c.args in
-    let e = exception_of (get_or args.policy.exceptions c.loop-i.i zero_exception) in
-    subst⁻¹ (λ (k : ℕ). k < 33) c.excepted_directive-number.ensures (excepted_within (packet_of args.packet) e)
-
-pub loop-i-preserved : goal.loop-i-preserved
-loop-i-preserved c =
-    let i = c.loop-i.i in
-    let marks = c.loop-i.marks in
-    let args = c.args in
-    let policy = args.policy in
-    let p = packet_of args.packet in
-    let e = exception_of (get_or policy.exceptions i zero_exception) in
-    let left = drop (i + 1) (exceptions_of policy) in
-    let full : length policy.exceptions ≡ most_exceptions = search (rules, length_of_map) in
-    let this = next exception_of policy.exceptions policy.exception_count i zero_exception (omega arith) (omega arith) in
-    subst⁻¹ (λ (k : ℕ). Marked p (exceptions_of policy) left (set marks k true)) c.excepted_directive-number.ensures
-    (marked_more p (exceptions_of policy) e left marks
-    (subst (λ (es : List Exception). Marked p (exceptions_of policy) es marks) this c.loop-i.invariant))
+pub loop-exception-preserved : goal.loop-exception-preserved
+loop-exception-preserved c =
+    let p = packet_of c.args.packet in
+    let all = exceptions_of c.args.policy in
+    let items = take c.min.result c.args.policy.exceptions in
+    let i = c.loop-exception.exception-index in
+    let left = map exception_of (drop (i + 1) items) in
+    let this = next exception_of items i zero_exception c.loop-exception-test.true in
+    let so_far = subst (λ (es : List Exception). Marked p all es c.loop-exception.marks) this c.loop-exception.invariant in
+    elim c.match-excepted_directive.branch [
+      | in-Some w ↦ subst⁻¹ (λ (marks : List Bool). Marked p all left marks) w.marks-is (marked_some p all _ left _ so_far w.in-Some.place w.in-Some.ensures)
+      | in_default w ↦ subst⁻¹ (λ (marks : List Bool). Marked p all left marks) w.marks-is (marked_none p all _ left _ so_far w.in_default.ensures)
+    ]
 
 pub returns : goal.returns
 returns c =
-    let marks = c.loop-i.marks in
-    let args = c.args in
-    let policy = args.policy in
-    let p = packet_of args.packet in
-    let full : length policy.exceptions ≡ most_exceptions = search (rules, length_of_map) in
-    let none_left = over exception_of policy.exceptions policy.exception_count c.loop-i.i (omega arith) in
-    let marked = subst (λ (es : List Exception). Marked p (exceptions_of policy) es marks) none_left c.loop-i.invariant in
-    record { at = marked_end p (exceptions_of policy) marks marked }
+    let p = packet_of c.args.packet in
+    let all = exceptions_of c.args.policy in
+    let none = none_left exception_of _ _ c.loop-exception-test.false in
+    let marked = subst (λ (es : List Exception). Marked p all es c.loop-exception.marks) none c.loop-exception.invariant in
+    record { at = marked_end p all _ marked }

@@ -4,22 +4,23 @@ use Rattle.meaning.specs.Labels.{judged}
 use Rattle.meaning.specs.Rules.{same_action}
 use Rattle.labels.proofs.judge.Goals as goal
 
-pub returns-then-deny : goal.returns-then-deny
+pub returns-in-true-true-default : goal.returns-in-true-true-default
 unfolding judged
-returns-then-deny c = simp (c.if-accept.true, c.if-deny.true)
+returns-in-true-true-default c = simp (c.in-true-true-default.is-0, c.in-true-true-default.is-1)
 
-pub returns-then-accept : goal.returns-then-accept
+pub returns-in-true-false-default : goal.returns-in-true-false-default
 unfolding same_action
-returns-then-accept c = c.judge_one.ensures ∙ simp (c.if-accept.true, c.if-deny.false)
+returns-in-true-false-default c = c.judge_one.ensures ∙ simp (c.in-true-false-default.is-0, c.in-true-false-default.is-1)
 
-pub returns-then-deny-2 : goal.returns-then-deny-2
+pub returns-in-false-true-default : goal.returns-in-false-true-default
 unfolding same_action
-returns-then-deny-2 c = c.judge_one-then-deny-2.ensures ∙ simp (c.if-accept.false, c.if-deny-2.true)
+returns-in-false-true-default c =
+    c.judge_one-in-false-true-default.ensures ∙ simp (c.in-false-true-default.is-0, c.in-false-true-default.is-1)
 
-pub returns-in-By : goal.returns-in-By
+pub returns-in-false-false-Some : goal.returns-in-false-false-Some
 unfolding judged
-returns-in-By c = simp (c.if-accept.false, c.if-deny-2.false, c.in-By.is)
+returns-in-false-false-Some c = simp (c.in-false-false-Some.is-0, c.in-false-false-Some.is-1, c.in-false-false-Some.is-2)
 
-pub returns-in-Nothing : goal.returns-in-Nothing
+pub returns-in-false-false-None : goal.returns-in-false-false-None
 unfolding judged
-returns-in-Nothing c = simp (c.if-accept.false, c.if-deny-2.false, c.in-Nothing.is)
+returns-in-false-false-None c = simp (c.in-false-false-None.is-0, c.in-false-false-None.is-1, c.in-false-false-None.is-2)

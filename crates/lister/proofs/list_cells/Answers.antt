@@ -1,6 +1,6 @@
 -- The listing below the first field is the whole.
 use native.Mathlib.Omega.{arith}
-use Rattle.cells.specs.Cells.{chart}
+use Rattle.cells.specs.Cells.{chart_of}
 use Rattle.lister.proofs.Few.{blocks_few}
 use Rattle.lister.proofs.list_cells.Goals as goal
 
@@ -11,5 +11,5 @@ list_below-requires c =
       field_le_field_count = (omega arith, c.requires.counts_len);
       formed = c.requires.formed;
       placed = c.requires.placed;
-      left_bound = omega (arith, blocks_few (chart a.words.now a.counts.now) a.left c.requires.counts_len c.requires.formed);
+      left_bound = omega (arith, blocks_few (chart_of a.chart.now) a.left c.requires.counts_len c.requires.formed);
     }

@@ -1,61 +1,52 @@
-use mathlib.Core.Path.{◌≡◌, refl, ap, sym, ◌∙◌}
+use mathlib.Core.Path.{ap, sym, ◌∙◌}
 use native.Mathlib.Omega.{arith}
-use Prim.Native.Nat.{◌+◌, ◌-◌, ◌*◌}
-use lib.ListN.{drop, get_or, drop_of_length-le}
-use Rattle.numbers.specs.Decimals.{digits, value}
-use Rattle.numbers.specs.declared.Number.TheVariants.{Is}
-use Rattle.numbers.proofs.Reckoning.{value_grows, value_at, digit_low, digit_high, digit_good}
-use Rattle.numbers.proofs.Reckoning.{decimal_is, decimal_unplain, decimal_letters, decimal_large}
+use Rattle.std.specs.Prelude.{Some}
+use lib.ListN.{drop_of_length-le}
+use Rattle.numbers.specs.Decimals.{digits}
+use Rattle.numbers.proofs.Reckoning.{digit_low, digit_high, decimal_is, decimal_unplain, decimal_letters, decimal_large, decimal_past, value_read}
 use Rattle.numbers.proofs.decimal.Goals as goal
 
-pub loop-i-init : goal.loop-i-init
-loop-i-init c = (omega arith, omega arith, sym c.is_plain.ensures ∙ c.if-is_plain.true, refl, refl)
+pub returns-then-not-is_plain : goal.returns-then-not-is_plain
+returns-then-not-is_plain c = sym (decimal_unplain c.args.most c.args.text.now (cc))
 
-pub returns-then-digit-lt48 : goal.returns-then-digit-lt48
-returns-then-digit-lt48 c =
-    let at = c.loop-i in
-    let args = c.args in
-    let text = args.text.now in
-    sym (decimal_letters args.most text (at.invariant.3 ∙ digit_low text at.i (omega arith) c.if-digit-lt48.true))
+pub returns-in_default : goal.returns-in_default
+returns-in_default c =
+    let at = c.loop-byte in
+    let text = c.args.text.now in
+    sym (decimal_letters c.args.most text (at.invariant.digits_left ∙ digit_low text at.byte-index (omega arith) (omega arith)))
 
-pub returns-then-digit-gt57 : goal.returns-then-digit-gt57
-returns-then-digit-gt57 c =
-    let at = c.loop-i in
-    let args = c.args in
-    let text = args.text.now in
-    sym (decimal_letters args.most text (at.invariant.3 ∙ digit_high text at.i (omega arith) c.if-digit-gt57.true))
+pub returns-in_default-2 : goal.returns-in_default-2
+returns-in_default-2 c =
+    let at = c.loop-byte in
+    let text = c.args.text.now in
+    sym (decimal_letters c.args.most text (at.invariant.digits_left ∙ digit_high text at.byte-index (omega arith) (omega arith)))
 
-pub returns-then-most-longer : goal.returns-then-most-longer
-returns-then-most-longer c =
-    let at = c.loop-i in
-    let args = c.args in
-    let text = args.text.now in
-    let is = at.invariant.4 ∙ value_at text at.i (omega arith) at.value in
-    let grows = value_grows (at.value * 10 + (get_or text at.i 0 - 48)) (drop (at.i + 1) text) in
-    sym (decimal_large args.most text (omega arith))
+pub returns-in_err-checked_mul : goal.returns-in_err-checked_mul
+returns-in_err-checked_mul c =
+    let at = c.loop-byte in
+    let past = c.in_err-checked_mul.ensures in
+    let large = decimal_past c.args.most c.args.text.now at.value at.byte-index (omega arith) at.invariant.value_left (omega arith) in
+    c.from_residual.ensures ∙ sym large
 
-pub loop-i-preserved : goal.loop-i-preserved
-loop-i-preserved c =
-    let at = c.loop-i in
-    let args = c.args in
-    let text = args.text.now in (
-      omega arith,
-      omega arith,
-      at.invariant.2,
-      at.invariant.3 ∙ digit_good text at.i (omega arith) (omega arith) (omega arith),
-      at.invariant.4 ∙ value_at text at.i (omega arith) at.value,
-    )
+pub returns-in_err-value : goal.returns-in_err-value
+returns-in_err-value c =
+    let at = c.loop-byte in
+    let past = c.in_err-value.ensures in
+    let tens = c.in_ok-checked_mul.ensures in
+    let large = decimal_past c.args.most c.args.text.now at.value at.byte-index (omega arith) at.invariant.value_left (omega arith) in
+    c.from_residual-in_err-value.ensures ∙ sym large
 
-pub returns-then-is_plain : goal.returns-then-is_plain
-returns-then-is_plain c =
-    let at = c.loop-i in
-    let args = c.args in
-    let text = args.text.now in
-    let over = drop_of_length-le text {i = at.i} (omega arith) in
-    let is : value 0 text ≡ at.value = at.invariant.4 ∙ ap (value at.value) over in
-    sym (decimal_is args.most text at.invariant.2 (at.invariant.3 ∙ ap digits over) (omega arith) ∙ ap Is is)
+pub returns-then-value-most : goal.returns-then-value-most
+returns-then-value-most c =
+    let at = c.loop-byte in
+    let text = c.args.text.now in
+    let over = drop_of_length-le text {i = at.byte-index} (omega arith) in
+    let is = value_read c.args.most text at.value at.byte-index (omega arith) at.invariant.value_left in
+    sym (decimal_is c.args.most text at.invariant.begun (at.invariant.digits_left ∙ ap digits over) (omega arith) ∙ ap Some is)
 
-pub returns : goal.returns
-returns c =
-    let args = c.args in
-    sym (decimal_unplain args.most args.text.now (sym c.is_plain.ensures ∙ c.if-is_plain.false))
+pub returns-else-value-most : goal.returns-else-value-most
+returns-else-value-most c =
+    let at = c.loop-byte in
+    let text = c.args.text.now in
+    let is = value_read c.args.most text at.value at.byte-index (omega arith) at.invariant.value_left in
+    sym (decimal_large c.args.most text (omega arith))

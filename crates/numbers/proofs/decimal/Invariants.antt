@@ -1,14 +1,14 @@
--- The invariant: the bytes before i are digits and make the value, which is not past the largest. Assumes nothing.
+-- The invariant: the bytes before the index are digits and make the value. Assumes nothing.
 use mathlib.Core.Bool.{true}
 use mathlib.Core.Path.{◌≡◌}
-use Prim.Native.Nat.{◌-◌, ◌≤◌}
-use lib.ListN.{length, drop}
+use lib.ListN.{drop}
 use Rattle.numbers.specs.Decimals.{plain, digits, value}
 use Rattle.numbers.proofs.decimal.Given as goal
 
-abbrev pub invariant-loop-i : goal.invariant-loop-i
-invariant-loop-i l =
-    (l.i ≤ length l.text) × (l.value ≤ l.most) × (plain l.text ≡ true) × (digits l.text ≡ digits (drop l.i l.text)) × (value 0 l.text ≡ value l.value (drop l.i l.text))
-
-abbrev pub decreases-loop-i : goal.decreases-loop-i
-decreases-loop-i l = length l.text - l.i
+abbrev pub invariant-loop-byte : goal.invariant-loop-byte
+invariant-loop-byte l =
+    record {
+      begun : plain l.text ≡ true;
+      digits_left : digits l.text ≡ digits (drop l.byte-index l.text);
+      value_left : value 0 l.text ≡ value l.value (drop l.byte-index l.text);
+    }

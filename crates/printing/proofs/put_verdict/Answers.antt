@@ -1,24 +1,45 @@
 -- Field by field, unless the table conforms.
-use mathlib.Core.List.{[], ◌∷◌}
-use mathlib.Core.Path.{◌∙◌, ap, sym}
-use Prim.Native.Nat.{ℕ}
-use borrow.Author.Tests.{eq-eqb, ne_eqb}
+use mathlib.Core.Bool.{true, false}
+use mathlib.Core.List.{◌∷◌}
+use mathlib.Core.Path.{◌≡◌, refl, ap, ◌∙◌}
+use borrow.Author.Rules.{rules}
+use lib.Dec.{eqb}
+use Rattle.meaning.specs.Labels.{kind}
+use Rattle.blocks.specs.Vocabulary.{packet_of}
+use Rattle.sets.specs.Vocabulary.{label_of}
+use Rattle.sets.specs.declared.Label.{Label}
+use Rattle.sets.specs.declared.Label.TheVariants.{Good, Conflict, Wrong, Unasked, UnmetAccept, UnmetDeny}
+use Rattle.parts.specs.Words.{bytes}
 use Rattle.putting.specs.Spelling.{decimal}
-use Rattle.putting.proofs.Putting.{put_same, put_then}
-use Rattle.printing.proofs.Spacing.{fields_same, put_fields}
-use Rattle.printing.specs.Lines.{verdict_line}
+use Rattle.putting.proofs.Putting.{on_same}
+use Rattle.printing.specs.Lines.{line, numbers_of, spellings, verdict_line}
 use Rattle.printing.proofs.put_verdict.Goals as goal
 
-pub returns-then-kind-eq0 : goal.returns-then-kind-eq0
+-- of the labels the good one has kind 0, and no other
+good_is_0 : (l : Label) → l ≡ Good → eqb (kind (label_of l)) 0 ≡ true
+unfolding kind
+good_is_0 l good = ap (λ (m : Label). eqb (kind (label_of m)) 0) good
+
+only_good : (l : Label) → (l ≡ Good → ⊥) → eqb (kind (label_of l)) 0 ≡ false
+unfolding kind
+only_good Good bad = absurd (bad refl)
+only_good Conflict bad = refl
+only_good (Wrong n) bad = refl
+only_good (Unasked n) bad = refl
+only_good UnmetAccept bad = refl
+only_good UnmetDeny bad = refl
+
+pub returns-then-eq : goal.returns-then-eq
 unfolding verdict_line
-returns-then-kind-eq0 c =
-    put_same (simp (eq-eqb _ 0 (sym c.kind.ensures ∙ c.if-kind-eq0.true))) c.put_bytes.ensures
+returns-then-eq c =
+    let good : c.args.label ≡ Good = search rules in
+    on_same (simp (good_is_0 c.args.label good)) c.put_line.ensures
 
 pub returns : goal.returns
 unfolding verdict_line
 returns c =
-    let rule = fields_same (ap (λ (n : ℕ). decimal n ∷ []) c.rule.ensures) c.put_number-at.ensures in
-    let numbers = put_fields c.put_number-at-2.ensures (put_fields c.put_number-at-3.ensures c.put_packet-at.ensures) in
-    put_same (simp (ne_eqb _ 0 (λ e. c.if-kind-eq0.false (c.kind.ensures ∙ e))))
-    (put_then c.put_bytes-at.ensures
-    (put_then (put_fields c.put_word-at.ensures (put_fields rule numbers)).fields c.put_byte.ensures))
+    let bad : c.args.label ≡ Good → ⊥ = search rules in
+    on_same
+    ((λ i. line (bytes "verdict") (c.word.ensures i ∷ decimal (c.rule.ensures i) ∷ decimal c.args.accept_directive ∷ decimal c.args.deny_directive ∷ numbers_of spellings (packet_of c.args.packet)))
+    ∙ simp (only_good c.args.label bad))
+    c.put_line-2.ensures

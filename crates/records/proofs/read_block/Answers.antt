@@ -6,20 +6,22 @@ use Rattle.records.proofs.read_block.Goals as goal
 pub loop-i-init : goal.loop-i-init
 loop-i-init c = read_none c.args.line.now c.args.k
 
-pub returns-in-Not : goal.returns-in-Not
-returns-in-Not c =
+pub returns-in-Err : goal.returns-in-Err
+returns-in-Err c =
     let at = c.loop-i in
     let a = c.args in
-    let is = c.in-Not.is in
-    let said = has_read a.line c.field.result at.i (a.k + at.i) _ _ c.field.ensures c.read_field.ensures is in
-    read_stop a.line.now a.k at.i at.bounds at.invariant _ (omega arith) said
+    let is = c.in-Err.is in
+    let shown = rw c.from-first.ensures at c.field.ensures in
+    let said = has_read a.line c.field.result at.i (a.k + at.i) _ _ shown c.read_field.ensures is in
+    rw c.from-first.ensures (read_stop a.line.now a.k at.i at.bounds at.invariant _ (omega arith) said)
 
 pub loop-i-preserved : goal.loop-i-preserved
 loop-i-preserved c =
     let at = c.loop-i in
     let a = c.args in
-    let is = c.in-Is.is in
-    let said = has_read a.line c.field.result at.i (a.k + at.i) _ _ c.field.ensures c.read_field.ensures is in
+    let is = c.in-Ok.is in
+    let shown = rw c.from-first.ensures at c.field.ensures in
+    let said = has_read a.line c.field.result at.i (a.k + at.i) _ _ shown c.read_field.ensures is in
     read_more a.line.now a.k at.i at.bounds at.invariant _ (omega arith) said
 
 pub returns : goal.returns

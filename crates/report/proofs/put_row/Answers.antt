@@ -1,9 +1,9 @@
 -- Kind, rule and bounds, as a line. Assumes nothing.
 use mathlib.Core.Path.{◌∙◌, refl}
-use Rattle.putting.proofs.Putting.{put_same}
+use Rattle.putting.proofs.Putting.{on_same}
 use Rattle.report.proofs.RowLines.{row_line_lem}
 use Rattle.report.proofs.put_row.Goals as goal
 
 pub returns : goal.returns
 returns c =
-    put_same (row_line_lem _ _ _ _ _ refl refl (c.of_bounds-block.ensures ∙ c.bounds_at.ensures)) c.put_block.ensures
+    on_same (row_line_lem _ _ _ _ _ refl refl (c.of_bounds-block.ensures ∙ c.bounds_at.ensures)) c.put_block.ensures

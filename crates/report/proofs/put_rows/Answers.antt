@@ -1,24 +1,11 @@
-use mathlib.Core.Path.{◌∙◌, ◌≡◌, ap, refl, sym}
-use native.Mathlib.Omega.{arith}
-use Rattle.putting.proofs.Putting.{put_length, put_nothing, put_same, put_then}
+use mathlib.Core.Path.{sym}
+use Rattle.putting.proofs.Putting.{on_nothing, on_same, on_then}
 use Rattle.report.proofs.RowLines.{lines_more}
-use Rattle.report.specs.Inner.{row_lines}
 use Rattle.report.proofs.put_rows.Goals as goal
 
 pub loop-i-init : goal.loop-i-init
-loop-i-init c = (omega arith, refl, put_nothing _ _)
+loop-i-init c = on_nothing _
 
 pub loop-i-preserved : goal.loop-i-preserved
 loop-i-preserved c =
-    let rows = c.args.rows.now in
-    let inv = c.loop-i.invariant in (
-      omega arith,
-      put_length c.put_row-at.ensures ∙ inv.1,
-      put_same (sym (lines_more rows c.loop-i.i)) (put_then inv.2 c.put_row-at.ensures),
-    )
-
-pub returns : goal.returns
-returns c =
-    let args = c.args in
-    let all : c.loop-i.i ≡ args.count = omega arith in
-    put_same (ap (row_lines args.rows.now) all) c.loop-i.invariant.2
+    on_same (sym (lines_more c.args.rows.now c.loop-i.i)) (on_then c.loop-i.invariant c.put_row.ensures)

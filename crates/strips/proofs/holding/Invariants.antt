@@ -4,7 +4,4 @@ use Rattle.strips.proofs.SpanMasks.{HoldingFrom}
 use Rattle.strips.proofs.holding.Given as goal
 
 abbrev pub invariant-loop-j : goal.invariant-loop-j
-invariant-loop-j l = (l.first ≤ l.j) × (l.j ≤ l.first + l.count) × HoldingFrom l.numbers l.field l.x (l.first + l.count) l.j l.mask
-
-abbrev pub decreases-loop-j : goal.decreases-loop-j
-decreases-loop-j l = l.j
+invariant-loop-j l = (l.first ≤ l.j) × HoldingFrom l.numbers l.field l.x (l.first + l.count) l.j l.mask

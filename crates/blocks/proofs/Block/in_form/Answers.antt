@@ -9,4 +9,5 @@ pub returns-then-rising : goal.returns-then-rising
 returns-then-rising c = c.inside.ensures ∙ sym (block_form_by_widest widths (block_of c.args.self) ∙ simp (← c.rising.ensures, c.if-rising.true))
 
 pub returns-else-rising : goal.returns-else-rising
-returns-else-rising c = sym (block_form_by_widest widths (block_of c.args.self) ∙ simp (← c.rising.ensures, c.if-rising.false))
+returns-else-rising c =
+    c.if-rising.false ∙ sym (block_form_by_widest widths (block_of c.args.self) ∙ simp (← c.rising.ensures, c.if-rising.false))

@@ -1,6 +1,0 @@
--- It puts a space, then the number.
-use Rattle.printing.proofs.Spacing.{put_field}
-use Rattle.printing.proofs.put_number.Goals as goal
-
-pub returns : goal.returns
-returns c = put_field c.put_byte-at.ensures c.put_decimal.ensures
