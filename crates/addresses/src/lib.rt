@@ -33,7 +33,7 @@ pub fn quad(text: &[u8]) -> Option<u32>
     Some(((a * 256 + b) * 256 + c) * 256 + d)
 }
 
-// Part n of a text, counted from 0, as a dotted quad.
+// Part n of a text, counted from 0, as a dotted quad. A call by itself: what a part is, is then proved once for both that ask.
 #[tactic(auto, using(parts::proofs::Parting::shown_bytes, parts::proofs::Parting::piece_bytes))]
 fn quad_part(text: &[u8], separator: u8, n: usize) -> Option<u32>
     ensures { result ≡ quad_of (part separator text.now n) }
@@ -90,7 +90,7 @@ fn sized(address: u32, text: &[u8]) -> Result<Span, Unfit>
     masked(address, mask)
 }
 
-// The same by part n of a text, counted from 0.
+// The same by part n of a text, counted from 0. A call by itself, as for a quad.
 #[tactic(auto, using(parts::proofs::Parting::shown_bytes, parts::proofs::Parting::piece_bytes))]
 fn sized_part(address: u32, text: &[u8], separator: u8, n: usize) -> Result<Span, Unfit>
     ensures { result ≡ sized_by address (part separator text.now n) }

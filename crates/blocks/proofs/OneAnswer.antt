@@ -14,7 +14,7 @@ use Rattle.blocks.specs.declared.Block.{Block}
 use Rattle.blocks.specs.declared.Narrowed.{Narrowed}
 use Rattle.blocks.specs.declared.Packet.{Packet}
 use Rattle.blocks.specs.declared.Span.{Span}
-use Rattle.blocks.proofs.Block.bounds.Reads as block_bounds_call
+use Rattle.blocks.proofs.ArrayU32BOUNDSFromBlock.from.Reads as block_bounds_call
 use Rattle.blocks.proofs.Block.holds.Reads as block_holds_call
 use Rattle.blocks.proofs.Block.in_form.Reads as block_in_form_call
 use Rattle.blocks.proofs.Block.inside.Reads as block_inside_call
@@ -22,11 +22,11 @@ use Rattle.blocks.proofs.Block.narrow_destination.Reads as block_narrow_destinat
 use Rattle.blocks.proofs.Block.narrow_port.Reads as block_narrow_port_call
 use Rattle.blocks.proofs.Block.narrow_protocol.Reads as block_narrow_protocol_call
 use Rattle.blocks.proofs.Block.narrow_source.Reads as block_narrow_source_call
-use Rattle.blocks.proofs.Block.of_bounds.Reads as block_of_bounds_call
 use Rattle.blocks.proofs.Block.widest.Reads as block_widest_call
+use Rattle.blocks.proofs.BlockFromArrayU32BOUNDS.from.Reads as block_of_bounds_call
 use Rattle.blocks.proofs.Packet.in_form.Reads as packet_in_form_call
 use Rattle.blocks.proofs.Packet.lowest.Reads as packet_lowest_call
-use Rattle.blocks.proofs.Packet.of_numbers.Reads as packet_of_numbers_call
+use Rattle.blocks.proofs.PacketFromArrayU32FIELDS.from.Reads as packet_of_numbers_call
 
 abbrev packet_from : fields.Packet → Packet
 packet_from p = record { source = get_or p 0 0; destination = get_or p 1 0; protocol = get_or p 2 0; port = get_or p 3 0 }

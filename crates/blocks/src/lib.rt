@@ -68,13 +68,6 @@ impl Packet {
         Packet::LOWEST
     }
 
-    // The packet with these numbers, in the order of the fields.
-    pub fn of_numbers(numbers: [u32; FIELDS]) -> Packet
-        ensures { packet_of result ≡ numbers }
-    {
-        Packet::from(numbers)
-    }
-
     // Whether the packet is in form: no number past its field's largest.
     pub fn in_form(self) -> bool
         ensures { result ≡ packet_in_form fields (packet_of self) }
@@ -180,20 +173,6 @@ impl Block {
         Block::WIDEST
     }
 
-    // The low and the high bound of each field, in the order of the fields.
-    pub fn bounds(self) -> [u32; BOUNDS]
-        ensures { result ≡ bounds (block_of self) }
-    {
-        self.into()
-    }
-
-    // The block with these bounds, a low and a high one for each field.
-    pub fn of_bounds(numbers: [u32; BOUNDS]) -> Block
-        ensures { bounds (block_of result) ≡ numbers }
-    {
-        Block::from(numbers)
-    }
-
     // Whether the block holds the packet: each span its number.
     #[tactic(auto, unfolding(meaning::specs::Blocks::holds))]
     pub fn holds(self, packet: Packet) -> bool
@@ -224,7 +203,8 @@ impl Block {
     }
 
     // The block with its sources narrowed to those that it shares with the bounds; the other fields stay. One narrowing
-    // may follow another: `b.narrow_source(s).block.narrow_port(p).block`.
+    // may follow another: `b.narrow_source(s).block.narrow_port(p).block`. A call for each field, with one body below: `NarrowedIn` has the
+    // field, and callers name these four calls.
     pub fn narrow_source(self, bounds: Span) -> Narrowed
         ensures { NarrowedIn 0 bounds self result }
     {

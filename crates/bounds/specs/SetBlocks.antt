@@ -5,7 +5,6 @@ use Rattle.meaning.specs.Form as form
 use Rattle.meaning.specs.Rules as rules
 use Rattle.sets.specs.declared.Policy.{Policy}
 use Rattle.sets.specs.declared.Rules.{Rules}
-use Rattle.bounds.specs.declared.BlockCounts.{BlockCounts}
 use Rattle.sets.specs.Inner.{directives_of, exceptions_of}
 use Rattle.sets.specs.Vocabulary.{rule_set_of}
 
@@ -14,12 +13,6 @@ pub record Limited (r : Rules) (p : Policy) : Type 0 where
   pub few_rules : r.count ≤ form.most_rules
   pub few_directives : p.directive_count ≤ form.most_directives
   pub few_exceptions : p.exception_count ≤ form.most_exceptions
-
--- the counts of blocks are within the same limits
-pub record CountsLimited (c : BlockCounts) : Type 0 where
-  pub few_rules : c.rules ≤ form.most_rules
-  pub few_directives : c.directives ≤ form.most_directives
-  pub few_exceptions : c.exceptions ≤ form.most_exceptions
 
 -- the rules within the count
 abbrev pub rules_of : Rules → List rules.Rule

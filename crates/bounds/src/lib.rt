@@ -7,28 +7,31 @@
 ghost use Rattle.std.specs.Prelude.{◌≡◌, ◌+◌, ◌*◌, ◌≤◌, length, map};
 ghost use Rattle.std.proofs.lemmas.List.Edits.{sets};
 ghost use Rattle.meaning.specs.Buffers.{bounds};
+ghost use Rattle.meaning.specs.Form.{most_rules, most_directives, most_exceptions};
 ghost use Rattle.meaning.specs.Sizes.{block_bounds, all_bounds};
 ghost use Rattle.blocks.specs.Vocabulary.{block_of};
 ghost use Rattle.layout.specs.Passed.{Computes};
 ghost use Rattle.bounds.specs.Inner.{put_behind};
-ghost use Rattle.bounds.specs.SetBlocks.{Limited, CountsLimited, all_blocks, BlocksCounted};
+ghost use Rattle.bounds.specs.SetBlocks.{Limited, all_blocks, BlocksCounted};
 ghost use Rattle.bounds.specs.Spans.{InFront};
 
 use blocks::{BOUNDS, Block};
 use sets::{Policy, Rules};
 
-// How many blocks there are: those of the rules, of the directives and of the exceptions.
+// How many blocks there are: those of the rules, of the directives and of the exceptions, each within its limit.
 #[derive(Clone, Copy)]
 pub struct BlockCounts {
     pub rules: usize,
     pub directives: usize,
     pub exceptions: usize,
+    ghost few_rules: { rules ≤ most_rules },
+    ghost few_directives: { directives ≤ most_directives },
+    ghost few_exceptions: { exceptions ≤ most_exceptions },
 }
 
 impl BlockCounts {
     // All of them.
     pub fn all(self) -> usize
-        requires { CountsLimited self }
         ensures { result ≡ self.rules + self.directives + self.exceptions }
     {
         self.rules + self.directives + self.exceptions
@@ -57,7 +60,8 @@ pub fn put_blocks(rules: Rules, policy: Policy, numbers: &mut [u32])
     );
 }
 
-// Puts the bounds of the records' blocks behind so many blocks; `block` gives a record's block.
+// Puts the bounds of the records' blocks behind so many blocks; `block` gives a record's block. By number: what is written through parts
+// that an iterator lends, no contract could tell.
 fn put_records<T, F: Fn(&T) -> Block>(records: &[T], block: F, before: usize, numbers: &mut [u32])
     requires gives_blocks { F.IsAlwaysCallable block }
     requires room { block_bounds * (before + length records.now) ≤ length numbers.old }
@@ -73,5 +77,6 @@ fn put_block(block: Block, at: usize, numbers: &mut [u32])
     requires { block_bounds * at + block_bounds ≤ length numbers.old }
     ensures { numbers.new ≡ sets numbers.old (block_bounds * at) (bounds (block_of block)) }
 {
-    layout::write_numbers(&block.bounds(), BOUNDS * at, numbers);
+    let bounds: [u32; BOUNDS] = block.into();
+    layout::write_numbers(&bounds, BOUNDS * at, numbers);
 }

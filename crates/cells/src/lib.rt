@@ -16,7 +16,8 @@ use layout::{
 };
 use sets::Label;
 
-// The rules, directives and exceptions that are left, a binary digit for each.
+// The rules, directives and exceptions that are left, a binary digit for each. Digits and no lists: no heap, and a walk takes the common
+// part at every strip.
 #[derive(Clone, Copy, PartialEq, Eq)]
 pub struct Left {
     pub rules: u64,
@@ -40,7 +41,8 @@ impl Left {
     }
 }
 
-// What a walk looks at: the words, and each field's number of strips.
+// What a walk looks at: the words, and each field's number of strips. No invariant: `left_at` and `label` answer for words that are not
+// `Formed`, too.
 #[derive(Clone, Copy)]
 pub struct Chart<'a> {
     pub words: &'a [u64],
@@ -60,6 +62,7 @@ impl Chart<'_> {
         if field == self.counts.len() {
             return self.label(a) == self.label(b);
         }
+        // No strip yet: two that are both empty are alike, so this pair passes over no strip that counts.
         let mut before = (Left::NONE, Left::NONE);
         for strip in 0..self.counts[field] {
             let here = (self.left_at(field, strip, a), self.left_at(field, strip, b));
@@ -127,6 +130,7 @@ impl Chart<'_> {
         if exceptions & turning != 0 {
             return true;
         }
+        // The binary digits of a mask, the lowest first: no list that a `for` could go over.
         let mut rest = own;
         while rest != 0 {
             let first = rest.trailing_zeros() as usize;

@@ -23,10 +23,10 @@ front_grows l part rest a k b within long is_b =
     length-append (take a l) part ∙ (λ t. length-take-le a l within t + long t) ∙ sym is_b in
     ap (take b) (sym (append_assoc (take a l) part rest)) ∙ take_at (take a l ++ part) rest b both
 
--- all behind the first a put back: nothing is left behind it
-pub all_behind : (l part : List ℕ) (a : ℕ) → take a l ++ (part ++ drop (length l - a) (drop a l)) ≡ take a l ++ part
-all_behind l part a =
-    let none : drop (length l - a) (drop a l) ≡ [] = drop_of_length-le (drop a l) {i = length l - a} (omega (arith, length-drop a l)) in
+-- all behind the first a put back, k numbers: nothing is left behind it
+pub all_behind : (l part : List ℕ) (a k : ℕ) → length l ≤ a + k → take a l ++ (part ++ drop k (drop a l)) ≡ take a l ++ part
+all_behind l part a k all =
+    let none : drop k (drop a l) ≡ [] = drop_of_length-le (drop a l) {i = k} (omega (arith, length-drop a l, all)) in
     ap (λ (rest : List ℕ). take a l ++ (part ++ rest)) none ∙ ap (λ (x : List ℕ). take a l ++ x) (append-nil part)
 
 -- what stands behind a part, behind the front that grew by it

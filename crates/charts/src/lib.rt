@@ -1,41 +1,53 @@
 // The chart of a rule set and a policy: what a walk over their strips looks at. It has the bounds of all blocks put side by side, the front
-// words written, and the chart of each field filled, one behind the other. The contract of `chart` says that the lent arrays are filled as
-// `specs/Charted` says.
+// words written, and the chart of each field filled, one behind the other. The contract of `Charts::fill` says that its arrays are filled
+// as `specs/Charted` says.
 
 #![tactic(auto)]
 
 ghost use Rattle.std.specs.Prelude.{◌≡◌, ◌<◌, length, get_or};
 ghost use Rattle.meaning.specs.Fields.{fields};
-ghost use Rattle.meaning.specs.Sizes.{field_count, all_bounds, all_masks, all_places, all_words};
-ghost use Rattle.bounds.specs.SetBlocks.{Limited, CountsLimited};
+ghost use Rattle.meaning.specs.Sizes.{field_count, all_bounds, all_masks, all_places};
+ghost use Rattle.bounds.specs.SetBlocks.{Limited};
 ghost use Rattle.charts.specs.Charted.{FieldsCharted, Charted};
 
-use blocks::{Block, FIELDS};
+use blocks::{BOUNDS, Block, FIELDS};
 use bounds::BlockCounts;
 use layout::{FIELD_MASKS, FIELD_PLACES, FIRST_MASK, NUMBERS};
 use sets::{Policy, Rules};
 
-// Fills the chart of the sets.
-pub fn chart(
-    rules: Rules,
-    policy: Policy,
-    words: &mut [u64],
-    counts: &mut [usize],
-    places: &mut [u64],
-)
-    requires limited { Limited rules policy }
-    requires words_len { (length words.old ≡ all_words) × (length counts.old ≡ field_count) × (length places.old ≡ all_places) }
-    ensures { Charted rules policy words.new counts.new places.new }
-{
-    let mut numbers = [0u32; NUMBERS];
-    bounds::put_blocks(rules, policy, &mut numbers);
-    front::put_front(rules, policy, words);
-    let blocks = BlockCounts {
-        rules: rules.count,
-        directives: policy.directive_count,
-        exceptions: policy.exception_count,
+// The chart of two sets: what is asked and done in each strip, how many strips each field has, and where they begin. Flat arrays of fixed
+// length: no heap, and `Charted` says what stands where. No invariant: `EMPTY` is no chart yet, and a chart is filled in place.
+#[derive(Drop)]
+pub struct Charts {
+    pub words: [u64; layout::WORDS],
+    pub counts: [usize; FIELDS],
+    pub places: [u64; layout::PLACES],
+}
+
+impl Charts {
+    // Nothing is charted.
+    pub const EMPTY: Charts = Charts {
+        words: [0; layout::WORDS],
+        counts: [0; FIELDS],
+        places: [0; layout::PLACES],
     };
-    chart_fields(blocks, &numbers, &mut words[FIRST_MASK..], counts, places);
+
+    // Fills the chart of the sets, in place: a chart that is handed back is copied.
+    pub fn fill(&mut self, rules: Rules, policy: Policy)
+        requires { Limited rules policy }
+        ensures { Charted rules policy self.new.words self.new.counts self.new.places }
+    {
+        let mut numbers = [0; NUMBERS];
+        bounds::put_blocks(rules, policy, &mut numbers);
+        front::put_front(rules, policy, &mut self.words);
+        let blocks = BlockCounts {
+            rules: rules.count,
+            directives: policy.directive_count,
+            exceptions: policy.exception_count,
+        };
+        let masks = &mut self.words[FIRST_MASK..];
+        chart_fields(blocks, &numbers, masks, &mut self.counts, &mut self.places);
+    }
 }
 
 // Fills the charts of the fields, one after the other.
@@ -46,7 +58,6 @@ fn chart_fields(
     counts: &mut [usize],
     places: &mut [u64],
 )
-    requires limited { CountsLimited blocks }
     requires numbers_len { length numbers.now ≡ all_bounds }
     requires masks_len { (length masks.old ≡ all_masks) × (length counts.old ≡ field_count) × (length places.old ≡ all_places) }
     ensures { FieldsCharted numbers.now blocks.rules blocks.directives blocks.exceptions 0 fields masks.new places.new counts.new }
@@ -71,6 +82,6 @@ fn size_of(field: usize) -> u64
     requires { field < field_count }
     ensures { result ≡ get_or fields field 0 }
 {
-    let widest = Block::widest().bounds();
+    let widest: [u32; BOUNDS] = Block::widest().into();
     u64::from(widest[2 * field + 1]) + 1
 }

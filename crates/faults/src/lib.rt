@@ -11,24 +11,15 @@ ghost use Rattle.bounds.specs.SetBlocks.{Limited};
 ghost use Rattle.charts.specs.Charted.{Charted};
 ghost use Rattle.faults.specs.Answers.{refused, JudgedAs, ListedAs};
 
-use blocks::FIELDS;
+use charts::Charts;
 use findings::Finding;
 use sets::{Policy, Refusal, Rules};
-
-// The chart of two sets: what is asked and done in each strip, how many strips each field has, and where they begin.
-#[derive(Drop)]
-struct Chart {
-    words: [u64; layout::WORDS],
-    counts: [usize; FIELDS],
-    places: [u64; layout::PLACES],
-}
 
 // The verdict on the rules and the policy, None if the table conforms; or 14 if they are not in form.
 pub fn verdict(rules: Rules, policy: Policy) -> Result<Option<Finding>, Refusal>
     ensures { JudgedAs rules policy result }
 {
-    let chart = charted(rules, policy)?;
-    Ok(findings::verdict(rules, policy, &chart.words, &chart.counts, &chart.places))
+    Ok(findings::verdict(rules, policy, &charted(rules, policy)?))
 }
 
 // How many blocks the fault listing has, or 14 if the rules or the policy are not in form. The first blocks that fit are written
@@ -36,32 +27,18 @@ pub fn verdict(rules: Rules, policy: Policy) -> Result<Option<Finding>, Refusal>
 pub fn listing(rules: Rules, policy: Policy, buffer: &mut [u32]) -> Result<u64, Refusal>
     ensures { ListedAs rules policy buffer.old buffer.new result }
 {
-    let Chart {
-        words,
-        counts,
-        places,
-    } = charted(rules, policy)?;
-    Ok(findings::listing(rules, policy, &words, &counts, &places, buffer))
+    Ok(findings::listing(rules, policy, &charted(rules, policy)?, buffer))
 }
 
-// The chart of the rules and the policy, or 14 if they are not in form.
-fn charted(rules: Rules, policy: Policy) -> Result<Chart, Refusal>
+// The chart of the rules and the policy, or 14 if they are not in form. It is handed back, and so copied, once a call; `report`, which the
+// program calls, fills one in place.
+fn charted(rules: Rules, policy: Policy) -> Result<Charts, Refusal>
     ensures refusal { refused_of result ≡ refused rules policy }
-    ensures limited { IfOk result (λ chart. Limited rules policy) }
-    ensures charted { IfOk result (λ chart. Charted rules policy chart.words chart.counts chart.places) }
+    ensures limited { IfOk result (λ charts. Limited rules policy) }
+    ensures charted { IfOk result (λ charts. Charted rules policy charts.words charts.counts charts.places) }
 {
     form::refuse_sets(rules, policy)?;
-    let mut chart = Chart {
-        words: [0; layout::WORDS],
-        counts: [0; FIELDS],
-        places: [0; layout::PLACES],
-    };
-    charts::chart(
-        rules,
-        policy,
-        &mut chart.words,
-        &mut chart.counts,
-        &mut chart.places,
-    );
-    Ok(chart)
+    let mut charts = Charts::EMPTY;
+    charts.fill(rules, policy);
+    Ok(charts)
 }

@@ -14,6 +14,7 @@ ghost use Rattle.findings.specs.Inner.{IsVerdictAt, CornerPlaced, corner_at};
 
 use blocks::{FIELDS, Packet};
 use cells::{Chart, Left};
+use charts::Charts;
 use layout::FIELD_PLACES;
 use sets::{Action, Label, Policy, Rules};
 use std::array;
@@ -35,36 +36,32 @@ const EVERYTHING: Left = Left {
 };
 
 // The verdict on the sets of the chart: by the first cell of the lowest rank, at its low corner. None if the table conforms.
-pub fn verdict(
-    rules: Rules,
-    policy: Policy,
-    words: &[u64],
-    counts: &[usize],
-    places: &[u64],
-) -> Option<Finding>
+pub fn verdict(rules: Rules, policy: Policy, charts: &Charts) -> Option<Finding>
     requires limited { Limited rules policy }
-    requires charted { Charted rules policy words.now counts.now places.now }
+    requires charted { Charted rules policy charts.now.words charts.now.counts charts.now.places }
     ensures verdict { VerdictFor rules policy (verdict_of result) }
     ensures at_fault { IfSome result AtFault }
 {
-    let best = judge::best_cell(EVERYTHING, &Chart { words, counts })?;
-    Some(verdict_at(rules, policy, corner(best.strips, places)))
+    let chart = Chart {
+        words: &charts.words,
+        counts: &charts.counts,
+    };
+    let best = judge::best_cell(EVERYTHING, &chart)?;
+    Some(verdict_at(rules, policy, corner(best.strips, &charts.places)))
 }
 
 // How many blocks the listing of the sets of the chart has; the first that fit are written to the buffer from the front.
-pub fn listing(
-    rules: Rules,
-    policy: Policy,
-    words: &[u64],
-    counts: &[usize],
-    places: &[u64],
-    buffer: &mut [u32],
-) -> u64
+// The walks' chart is written out, here and in `verdict`: where a method of `Charts` lent it, the check of these two did not end.
+pub fn listing(rules: Rules, policy: Policy, charts: &Charts, buffer: &mut [u32]) -> u64
     requires limited { Limited rules policy }
-    requires charted { Charted rules policy words.now counts.now places.now }
+    requires charted { Charted rules policy charts.now.words charts.now.counts charts.now.places }
     ensures { ListingTold rules policy buffer.old buffer.new result }
 {
-    lister::list_cells(EVERYTHING, &Chart { words, counts }, places, buffer)
+    let chart = Chart {
+        words: &charts.words,
+        counts: &charts.counts,
+    };
+    lister::list_cells(EVERYTHING, &chart, &charts.places, buffer)
 }
 
 // The verdict's answer at a packet: its label, and the lowest directives asking there.

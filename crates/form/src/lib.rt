@@ -55,7 +55,7 @@ pub fn refuse_label(rules: Rules, policy: Policy, packet: Packet) -> Result<(), 
     refuse_packet(packet)
 }
 
-// No refusal if what was looked at is in form, else 14 and what it was.
+// No refusal if what was looked at is in form, else 14 and what it was, by the number that `out_of_form` puts in place of a line.
 fn refuse_unless(in_form: bool, what: u32) -> Result<(), Refusal>
     ensures { refused_of result ≡ cond in_form unrefused (out_of_form what) }
 {

@@ -19,7 +19,8 @@ ghost use Rattle.front.specs.Inner.{owners_of, OwnersPut, TurningPut};
 
 use sets::{Action, Policy, Rules};
 
-// Writes the words that tell of actions: which rules and directives accept, and which exceptions belong to which directives.
+// Writes the words that tell of actions: which rules and directives accept, and which exceptions belong to which directives. The words are a
+// slice: an array as a type would ask more of callers.
 pub fn put_front(rules: Rules, policy: Policy, words: &mut [u64])
     requires limited { Limited rules policy }
     requires words_len { length words.old ≡ all_words }
@@ -55,7 +56,7 @@ fn accepts(action: Action) -> bool
     action == Action::Accept
 }
 
-// Writes the exceptions of each directive.
+// Writes the exceptions of each directive. By number: what is written through parts that an iterator lends, no contract could tell.
 fn put_owners(policy: Policy, words: &mut [u64])
     requires { (policy.directive_count ≤ most_directives) × (policy.exception_count ≤ most_exceptions) × (length words.old ≡ all_words) }
     ensures { words.new ≡ sets words.old first_owner (owners_of policy) }

@@ -1,5 +1,5 @@
 // The input as a stream of requests, one a line. The other harness fills its buffer likewise, but answers from the buffer itself; a
-// crate that both would stand on for this alone would be no plainer.
+// crate for the few lines that both have (this, `Shown`, blocks from numbers) would be no plainer.
 
 ghost use Rattle.std.specs.Prelude.{◌≤◌, vec_len};
 
@@ -13,7 +13,7 @@ const ROOM: usize = 65_536;
 // More bytes than a line has: a letter, and sixteen times a space and ten digits; or words behind `#`.
 const MOST_BYTES: usize = 1024;
 
-// What is read of the input and not taken yet: the buffer's bytes from start on.
+// What is read of the input and not taken yet: the buffer's bytes from start on. No `BufReader`: a line is cut at `MOST_BYTES`.
 #[derive(Drop)]
 pub(crate) struct Requests<R> {
     reader: R,

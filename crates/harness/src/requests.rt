@@ -7,6 +7,7 @@ use sets::{Action, Directive, Exception, Rule};
 // What a line asks for. A record is named by its number, counted from 1.
 #[derive(Clone, Copy)]
 pub(crate) enum Request {
+    // No `Option` round the request: an empty line is one too, and is taken like any other.
     Nothing,
     NewRules {
         count: usize,
@@ -122,7 +123,7 @@ impl<'a> Numbers<'a> {
         self.number() as usize
     }
 
-    // Takes an action: deny for 0, accept for any other number.
+    // Takes an action: deny for 0, accept for any other number. No `From`: both types are of other crates.
     fn action(&mut self) -> Action {
         match self.number() {
             0 => Action::Deny,

@@ -170,7 +170,7 @@ impl<W: Write> Session<W> {
         writeln!(self.output, "{word} {}", u32::from(flag))
     }
 
-    // Whether narrowing in the field, counted from 1, shared numbers, and the block handed back.
+    // Whether narrowing in the field shared numbers, and the block handed back. A request names the field by its number, from 1.
     fn tell_narrow(&mut self, field: u32, bounds: Span, block: Block) -> Result<()> {
         let narrowed = match field {
             1 => block.narrow_source(bounds),

@@ -1,6 +1,6 @@
 // Values as they are printed: their numbers, a space before each.
 
-use blocks::{Block, Packet};
+use blocks::{BOUNDS, Block, Packet};
 use findings::Finding;
 use labels::Decided;
 use sets::{Action, Label, Refusal, ZERO_BLOCK};
@@ -22,7 +22,7 @@ impl fmt::Display for Shown<&[u32]> {
 // A block's eight bounds.
 impl fmt::Display for Shown<Block> {
     fn fmt<W: fmt::Write>(&self, f: &mut fmt::Formatter<W>) -> fmt::Result {
-        let bounds = self.0.bounds();
+        let bounds: [u32; BOUNDS] = self.0.into();
         write!(f, "{}", Shown(bounds.as_slice()))
     }
 }
@@ -81,7 +81,7 @@ impl fmt::Display for Shown<Option<Decided>> {
     }
 }
 
-// A directive's number; 0 if there is none.
+// A directive's number; 0 if there is none, as an answer tells it.
 impl fmt::Display for Shown<Option<u32>> {
     fn fmt<W: fmt::Write>(&self, f: &mut fmt::Formatter<W>) -> fmt::Result {
         write!(f, " {}", self.0.unwrap_or(0))

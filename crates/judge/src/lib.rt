@@ -20,7 +20,7 @@ const UNMET: usize = sets::MOST_RULES + 1;
 // The rank of a good label, which comes last.
 pub const GOOD: usize = UNMET + 1;
 
-// A cell: the rank of its label, and its strip in each field.
+// A cell: the rank of its label, and its strip in each field. A rank is a number, since `BetterThan` compares it as one.
 #[derive(Clone, Copy)]
 pub struct Best {
     pub rank: usize,
@@ -65,6 +65,7 @@ fn best_below(field: usize, left: Left, limit: usize, chart: &Chart) -> Option<B
     }
     let mut best = None;
     let mut limit = limit;
+    // No strip yet: where nothing is left there is nothing to look for, so `NONE` passes over no strip that counts.
     let mut before = Left::NONE;
     for strip in 0..chart.counts[field] {
         let here = chart.left_at(field, strip, left);

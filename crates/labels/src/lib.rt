@@ -129,7 +129,7 @@ fn asks(directive: &Directive, excepted: bool, action: Action, packet: Packet) -
 }
 
 // For each directive, at its place: whether an exception that names it holds the packet. The marks are made once for a packet, so
-// that the exceptions are gone over once and not again for each directive.
+// that the exceptions are gone over once and not again for each directive. An array, as long as there can be directives: no heap.
 fn excepted(policy: Policy, packet: Packet) -> [bool; MOST_DIRECTIVES]
     ensures { Excepted policy packet result }
 {

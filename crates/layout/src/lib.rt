@@ -1,6 +1,6 @@
 // Layout: how long the engine's arrays are, and what stands where in them. Each number is made from the fields of a block and the
 // limits of the sets, and stands once; `meaning`'s Sizes says of each what it follows from, and the proofs of the engine hold the two
-// to one value. Beside it what a mask is (specs/Masks), and the one loop that copies numbers from an array into another.
+// to one value. Beside it what a mask is (specs/Masks), and the one call that copies numbers from an array into another.
 
 #![tactic(auto)]
 
@@ -33,9 +33,9 @@ pub const MASK_KINDS: usize = 3;
 
 pub const FIELD_MASKS: usize = MASK_KINDS * MOST_STRIPS;
 
-// What stands where among the words of a walk: which rules accept; which directives ask for accept; the exceptions of these
-// directives, and those of the others; from there on the exceptions of each directive, for as many as a mask has digits; and the
-// masks, field after field.
+// What stands where among the words of a walk, which are an array and no struct, since `WordsOf` tells it as a list: which rules accept;
+// which directives ask for accept; the exceptions of these directives, and those of the others; from there on the exceptions of each
+// directive, for as many as a mask has digits; and the masks, field after field.
 pub const ACCEPTING_RULES: usize = 0;
 
 pub const ACCEPTING_DIRECTIVES: usize = 1;

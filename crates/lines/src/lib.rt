@@ -1,6 +1,6 @@
 // Reading a text line by line. What reading carries along is the text, the next place and the number of the line there: first as
 // a cursor beside the text, by value, then as a reader that holds the lent text itself. The methods of a reader take it apart
-// and call plain functions; `line_at` and `after` make one of plain parameters. A loop over lines finds a line by `line_at`, and by its
+// and call plain functions; `line_at` and `after` make one of a cursor. A loop over lines finds a line by `line_at`, and by its
 // length the place behind it, `behind`, so that no line is gone through twice to find its end. A line is handed back as a part of the
 // caller's text, its address promised too. Every call answers for every place, number and length.
 
@@ -73,26 +73,28 @@ fn place_behind(at: usize, length: usize) -> usize
 }
 
 // The line at a cursor, as a part of the text.
-pub fn line_at(text: &[u8], at: usize, line: u32) -> &[u8]
-    ensures { seen result ≡ shown text.entry (line_from text.now at) }
+pub fn line_at(text: &[u8], cursor: Cursor) -> &[u8]
+    ensures { seen result ≡ shown text.entry (line_from text.now cursor.at) }
 {
+    let Cursor { at, line } = cursor;
     Lines { text, at, line }.current()
 }
 
 // The cursor behind the line at a cursor.
-pub fn after(text: &[u8], at: usize, line: u32) -> Cursor
-    ensures { result ≡ cursor_after text.now (record { at = at; line = line }) }
+pub fn after(text: &[u8], cursor: Cursor) -> Cursor
+    ensures { result ≡ cursor_after text.now cursor }
 {
+    let Cursor { at, line } = cursor;
     let Lines { at, line, .. } = Lines { text, at, line }.next();
     Cursor { at, line }
 }
 
 // The cursor behind a line of this length at a cursor.
-pub fn behind(at: usize, line: u32, length: usize) -> Cursor
-    ensures { result ≡ cursor_behind (record { at = at; line = line }) length }
+pub fn behind(cursor: Cursor, length: usize) -> Cursor
+    ensures { result ≡ cursor_behind cursor length }
 {
     Cursor {
-        at: place_behind(at, length),
-        line: line.saturating_add(1),
+        at: place_behind(cursor.at, length),
+        line: cursor.line.saturating_add(1),
     }
 }

@@ -18,14 +18,15 @@ use cells::{Chart, Left};
 use layout::{FIELD_PLACES, ROW};
 use sets::Label;
 
-// The rows listed so far: how many, and the buffer that has the first of them.
+// The rows listed so far: how many, and the buffer that has the first of them. A number beside the buffer: it goes on past the buffer's end.
 #[derive(Drop)]
 struct Rows<'a> {
     total: u64,
     buffer: &'a mut [u32],
 }
 
-// How many blocks the listing has where all of the sets are left; the first of them are written.
+// How many blocks the listing has where all of the sets are left; the first of them are written. The places stand beside the chart: only
+// rows need them.
 pub fn list_cells(left: Left, chart: &Chart, places: &[u64], buffer: &mut [u32]) -> u64
     requires counts_len { length chart.now.counts.now ≡ field_count }
     requires formed { Formed (chart_of chart.now) }
@@ -38,7 +39,8 @@ pub fn list_cells(left: Left, chart: &Chart, places: &[u64], buffer: &mut [u32])
     rows.total
 }
 
-// Lists below a field what is left: each block as a row with the bounds of the fields before, behind the rows so far.
+// Lists below a field what is left: each block as a row with the bounds of the fields before, behind the rows so far. A row is an array:
+// its numbers stand as the lent buffer takes them (`row_of`).
 fn list_below(
     field: usize,
     left: Left,

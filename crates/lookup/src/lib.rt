@@ -37,8 +37,8 @@ fn find<'a, 'b>(text: &'a [u8], word: &'b [u8], n: usize) -> &'a [u8]
     let mut left = n;
     let mut cursor = Cursor { at: 0, line: 1 };
     while cursor.at < text.len() {
-        let line = lines::line_at(text, cursor.at, cursor.line);
-        cursor = lines::behind(cursor.at, cursor.line, line.len());
+        let line = lines::line_at(text, cursor);
+        cursor = lines::behind(cursor, line.len());
         if records::is_named(line, word) {
             if left == 1 {
                 return line;

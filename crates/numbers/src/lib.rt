@@ -31,7 +31,7 @@ fn is_plain(text: &[u8]) -> bool
     }
 }
 
-// A decimal number up to a largest.
+// A decimal number up to a largest. No `parse`: that takes a `&str`, and lets signs and leading zeros through.
 pub fn decimal(text: &[u8], most: u32) -> Option<u32>
     ensures { result ≡ decimal_of most text.now }
 {
@@ -49,7 +49,7 @@ pub fn decimal(text: &[u8], most: u32) -> Option<u32>
     if value <= most { Some(value) } else { None }
 }
 
-// Part n of a text, counted from 0, as a decimal number up to a largest.
+// Part n of a text, counted from 0, as a decimal number up to a largest. A call by itself: what a part is, is then proved once for all.
 #[tactic(auto, using(parts::proofs::Parting::shown_bytes, parts::proofs::Parting::piece_bytes))]
 pub fn decimal_part(text: &[u8], separator: u8, n: usize, most: u32) -> Option<u32>
     ensures { result ≡ decimal_of most (part separator text.now n) }

@@ -65,7 +65,7 @@ pub fn count(text: &[u8], separator: u8) -> usize
     text.iter().filter(|byte| **byte == separator).count() + 1
 }
 
-// Whether both hold the same bytes.
+// Whether both hold the same bytes: `==` as a call, whose contract says it by `same`, the word of the texts' definitions.
 pub fn same(text: &[u8], other: &[u8]) -> bool
     ensures { result ≡ same text.now other.now }
 {

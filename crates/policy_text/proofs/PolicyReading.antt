@@ -25,23 +25,25 @@ use Rattle.sets.specs.Vocabulary.{directive_of}
 use Rattle.sets.specs.Listed.{padded, policy_set}
 use Rattle.sets.specs.declared.Directive.{Directive}
 use Rattle.sets.specs.declared.Policy.{Policy}
+use Rattle.sets.specs.declared.Refusal.{Refusal}
 use Rattle.sets.specs.declared.Reason.TheVariants.{UnknownWord, FieldCount, NoDirective, OutsideDirective, Full}
-use Rattle.sets.proofs.Padding.{padded_set}
+use Rattle.sets.proofs.Padding.{padded_set, nothing_asked_lem}
 use Rattle.lines.specs.Reader.{line_at, line_from, cursor_after, cursor_behind}
 use Rattle.lines.specs.declared.Cursor.{Cursor}
 use Rattle.lines.proofs.Stepping.{found_bytes, found_after}
-use Rattle.texts.specs.Texts.{most_bytes, refusal, lines_of, Said, goes, stops, read_from}
-use Rattle.texts.proofs.Reading.{Reading, begun, stepped, halted, finished}
+use Rattle.texts.specs.Texts.{most_bytes, refusal, lines_of, Said, goes, stops, refused_alone, read_from, read_text}
+use Rattle.texts.proofs.Reading.{Reading, begun, stepped, halted, finished, Alike, met}
 use Rattle.records.specs.Readers.{refused}
 use Rattle.records.specs.Records.{skipped, named, read_block, on_block, read_record, on_record}
 use Rattle.records.specs.declared.FieldRefusal.{FieldRefusal}
 use Rattle.records.specs.declared.Record.{Record}
 use Rattle.records.proofs.Forming.{ReadInForm, read_block_in_form, RecordInForm, read_record_in_form}
-use Rattle.policy_text.specs.Inner.{ask_added, but_added}
+use Rattle.policy_text.specs.Inner.{ask_added, but_added, nothing_read, line_said}
 use Rattle.policy_text.specs.PolicyTexts.{but_fields, ask_line, but_line, says, policy_line}
-use Rattle.policy_text.specs.PolicyTexts.{Asked, nothing_asked, nearest, ask, but, on_policy_line, said_policy, all_asked, none_asked}
+use Rattle.policy_text.specs.PolicyTexts.{Asked, nothing_asked, nearest, ask, but, on_policy_line, said_policy, all_asked, none_asked, read_policy}
 use Rattle.policy_text.specs.declared.PolicyLine.TheVariants.{Ask, But}
 use Rattle.policy_text.specs.declared.PolicyLine.{PolicyLine}
+use Rattle.policy_text.specs.declared.PolicyRead.{PolicyRead}
 
 -- what a line says
 abbrev pub Line : Type 0
@@ -101,6 +103,15 @@ module _ (asked excepted : ℕ) (above : Block) (line : List ℕ) where
       go false false true = but_right
       go false false false = tt
 
+-- a directive that a line says has room, and so has an exception
+pub ask_has_room : (asked excepted : ℕ) (above : Block) (line : List ℕ) (d : Directive)
+    → policy_line asked excepted above line ≡ Ok (Some (Ask d)) → asked < most_directives
+ask_has_room asked excepted above line d e = (subst (SaidRight asked excepted above) e (said_right asked excepted above line)).0
+
+pub but_has_room : (asked excepted : ℕ) (above : Block) (line : List ℕ) (b : Block)
+    → policy_line asked excepted above line ≡ Ok (Some (But b)) → excepted < most_exceptions
+but_has_room asked excepted above line b e = (subst (SaidRight asked excepted above) e (said_right asked excepted above line)).1
+
 -- an empty line says nothing
 pub says_nothing : (s : Asked) → said_policy s [] ≡ goes s
 unfolding policy_line
@@ -134,7 +145,7 @@ but_is s b h =
       exceptions = padded_set most_exceptions zero_exception s.exceptions (record { directive = length s.directives; block = b }) h i;
     }
 
--- the loop's invariant: the set is that of what is read so far, the block is the nearest directive's, and reading stands at the cursor
+-- the set is that of what is read so far, the block is the nearest directive's, and reading stands at the cursor
 pub record Read (t : List ℕ) (c : Cursor) (p : Policy) (above : Block) : Type 0 where
   pub s : Asked
   pub few : length s.directives ≤ most_directives
@@ -224,3 +235,45 @@ module _ (text : Bor (List ℕ)) (c : Cursor) (p : Policy) (above : Block) (h : 
       → read_from said_policy all_asked none_asked 1 nothing_asked (lines_of t) ≡ none_asked nothing_asked (refusal r.reason c.line r.field)
   read_stop r e =
       halted said_policy all_asked none_asked says_nothing nothing_asked t c.at c.line h.s h.reading inside r.reason r.field (reads (Err r) e)
+
+-- the set and the nearest block that stand for what is read are read as it is
+abbrev standing : Asked → PolicyRead
+standing s = record { policy = set_of s; above = nearest s.directives }
+
+abbrev Stands : Asked → PolicyRead → Type 0
+Stands s read = read ≡ standing s
+
+said_alike : (s : Asked) (read : PolicyRead) (line : List ℕ) → Stands s read → Alike Stands (said_policy s line) (line_said read line)
+said_alike s read line e =
+    subst (λ (x : PolicyRead). Alike Stands (said_policy s line) (line_said x line)) (sym e)
+    (go (policy_line asked excepted above line) (said_right asked excepted above line))
+  where
+    asked : ℕ
+    asked = length s.directives
+
+    excepted : ℕ
+    excepted = length s.exceptions
+
+    above : Block
+    above = nearest s.directives
+
+    go : (o : Line) → SaidRight asked excepted above o
+        → Alike Stands (on_policy_line o (goes s) (λ d. goes (ask s d)) (λ b. goes (but s b)) stops)
+        (on_policy_line o (goes (standing s)) (λ d. goes (record { policy = ask_added (set_of s) d; above = d.block }))
+        (λ b. goes (record { policy = but_added (set_of s) b; above = above })) stops)
+    go (Ok None) h = refl
+    go (Ok (Some (Ask d))) h = λ i. record { policy = ask_is s d h.0 i; above = sym (nearest_last s.directives d) i }
+    go (Ok (Some (But b))) h = ap (λ (x : Policy). record { policy = x; above = above }) (but_is s b h.1)
+    go (Err r) h = (refl, refl)
+
+-- the answer that hands back the policy alone
+abbrev pub policy_alone : Result PolicyRead Refusal → Result Policy Refusal
+policy_alone (Ok read) = Ok read.policy
+policy_alone (Err r) = Err r
+
+pub policy_met : (t : List ℕ) → read_policy t ≡ policy_alone (read_text line_said Ok refused_alone nothing_read t)
+unfolding read_policy
+policy_met t =
+    met said_policy all_asked none_asked line_said Ok refused_alone Stands (λ (x : Result Policy Refusal) y. x ≡ policy_alone y)
+    said_alike (λ s read e. ap (λ (x : PolicyRead). Ok x.policy) (sym e)) (λ s read r. refl)
+    nothing_asked nothing_read t (ap (λ (x : Policy). record { policy = x; above = zero_block }) (sym nothing_asked_lem))

@@ -4,19 +4,18 @@
 
 #![tactic(auto)]
 
-ghost use Rattle.std.specs.Prelude.{◌≡◌, ◌≤◌, ◌<◌, length};
+ghost use Rattle.std.specs.Prelude.{◌≡◌, ◌≤◌, ◌<◌};
 ghost use Rattle.meaning.specs.Form.{most_directives, most_exceptions};
-ghost use Rattle.texts.specs.Texts.{most_bytes, lines_of, read_from};
-ghost use Rattle.policy_text.specs.Inner.{ask_added, but_added};
-ghost use Rattle.policy_text.specs.PolicyTexts.{but_fields, ask_line, but_line, policy_line, nothing_asked, said_policy, all_asked, none_asked, read_policy};
+ghost use Rattle.policy_text.specs.Inner.{ask_added, but_added, line_said, nothing_read, none_said};
+ghost use Rattle.policy_text.specs.PolicyTexts.{but_fields, ask_line, but_line, policy_line, read_policy};
 
 use blocks::{Block, FIELDS};
-use lines::Cursor;
 use parts::TAB;
 use records::{FieldRefusal, Record};
 use sets::{
     Directive, Exception, MOST_DIRECTIVES, MOST_EXCEPTIONS, Policy, Reason, Refusal, ZERO_BLOCK,
 };
+use texts::LineByLine;
 
 // The fields of a `but` line: its word, and those of a block.
 const BUT_FIELDS: usize = 1 + FIELDS;
@@ -28,45 +27,56 @@ enum PolicyLine {
     But(Block),
 }
 
+// The policy read so far, and the block of the nearest directive above.
+#[derive(Clone, Copy)]
+struct PolicyRead {
+    policy: Policy,
+    above: Block,
+}
+
+impl LineByLine for PolicyRead {
+    ghost said = { line_said };
+
+    ghost none = { nothing_read };
+
+    ghost kept = { λ read. read.policy.directive_count ≤ most_directives };
+
+    fn nothing() -> PolicyRead {
+        PolicyRead {
+            policy: Policy::empty(),
+            above: ZERO_BLOCK,
+        }
+    }
+
+    #[tactic(auto, using(crate::proofs::PolicyReading::ask_has_room, crate::proofs::PolicyReading::but_has_room))]
+    fn read_line(&mut self, line: &[u8], number: u32) -> Result<(), Refusal> {
+        let asked = self.policy.directive_count;
+        let excepted = self.policy.exception_count;
+        match policy_line(line, asked, excepted, self.above) {
+            Ok(None) => {}
+            Ok(Some(PolicyLine::Ask(directive))) => {
+                add_directive(&mut self.policy, directive);
+                self.above = directive.block;
+            }
+            Ok(Some(PolicyLine::But(block))) => add_exception(&mut self.policy, block),
+            Err(refused) => return Err(refused.at_line(number)),
+        }
+        Ok(())
+    }
+
+    ghost says_nothing = { none_said };
+}
+
 // What a policy text means.
-#[tactic(auto, using(texts::proofs::Reading::unrefused_fits), unfolding(crate::specs::PolicyTexts::read_policy))]
+#[tactic(auto, using(crate::proofs::PolicyReading::policy_met))]
 pub fn read_policy(text: &[u8]) -> Result<Policy, Refusal>
     ensures { result ≡ read_policy text.now }
 {
-    texts::refuse_text(text)?;
-    read_lines(text)
+    let read: PolicyRead = texts::read_text(text)?;
+    Ok(read.policy)
 }
 
-// The lines of a text, one after another. The loop goes from cursor to cursor, as the document reads, and is this reader's own, though
-// the rule table's is like it: the laws of proofs/PolicyReading and the wrong program about lines left out are about it.
-fn read_lines(text: &[u8]) -> Result<Policy, Refusal>
-    requires { length text.now ≤ most_bytes }
-    ensures { result ≡ read_from said_policy all_asked none_asked 1 nothing_asked (lines_of text.now) }
-{
-    let mut policy = Policy::empty();
-    let mut above = ZERO_BLOCK;
-    let mut cursor = Cursor { at: 0, line: 1 };
-    while cursor.at < text.len() {
-        let line = cursor.line;
-        let asked = policy.directive_count;
-        let excepted = policy.exception_count;
-        let found = lines::line_at(text, cursor.at, cursor.line);
-        let said = policy_line(found, asked, excepted, above);
-        cursor = lines::behind(cursor.at, cursor.line, found.len());
-        match said {
-            Ok(None) => {}
-            Ok(Some(PolicyLine::Ask(directive))) => {
-                above = directive.block;
-                add_directive(&mut policy, directive);
-            }
-            Ok(Some(PolicyLine::But(block))) => add_exception(&mut policy, block),
-            Err(refused) => return Err(refused.at_line(line)),
-        }
-    }
-    Ok(policy)
-}
-
-// What a line says, after so many directives and exceptions, under the nearest directive above.
+// What a line says, after so many directives and exceptions, under the nearest directive above: the three that `policy_line` of specs has.
 #[tactic(auto, unfolding(crate::specs::PolicyTexts::policy_line))]
 fn policy_line(
     line: &[u8],
@@ -93,7 +103,7 @@ fn policy_line(
     })
 }
 
-// An `ask` line, after so many directives.
+// An `ask` line, after so many directives. What it has in common with a `rule` line is `read_record`; what is left is the limit and the type.
 #[tactic(auto, unfolding(crate::specs::PolicyTexts::ask_line))]
 fn ask_line(line: &[u8], asked: usize) -> Result<Directive, FieldRefusal>
     ensures { result ≡ ask_line asked line.now }

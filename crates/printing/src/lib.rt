@@ -24,7 +24,7 @@ enum Field<'a> {
     Total(u64),
 }
 
-// Puts the verdict's line.
+// Puts the verdict's line. A directive is a number and no `Option`: `verdict_line` spells it as it is given, 0 too.
 pub fn put_verdict(
     output: &mut Output,
     label: Label,
@@ -58,7 +58,7 @@ pub fn put_total(output: &mut Output, total: u64)
     put_line(output, b"blocks", &[Field::Total(total)])
 }
 
-// Puts a block's line.
+// Puts a block's line. Kind and rule are any two numbers, as they stand in a row of the listing.
 #[tactic(auto, unfolding(crate::specs::Lines::block_line))]
 pub fn put_block(output: &mut Output, kind: u32, rule: u32, block: Block)
     ensures { PutOn output.old (block_line kind rule (block_of block)) output.new }

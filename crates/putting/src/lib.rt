@@ -46,7 +46,7 @@ impl Output<'_> {
         self.put_bytes(&digits[..count]);
     }
 
-    // Puts a dotted quad.
+    // Puts a dotted quad, by division, as `quad` says it.
     pub fn put_quad(&mut self, address: u32)
         ensures { PutOn self.old (quad address) self.new }
     {

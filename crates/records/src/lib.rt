@@ -18,7 +18,7 @@ use sets::{Action, Reason, Refusal};
 // The fields of a `rule` or an `ask` line: its word and its action, and those of a block.
 const RECORD_FIELDS: usize = 2 + FIELDS;
 
-// Why a line is refused, and at which of its fields, counted from 1; 0 is the line as a whole.
+// Why a line is refused, and at which of its fields, counted from 1; 0 is the line as a whole, as in a `Refusal`.
 #[derive(Clone, Copy, PartialEq, Eq)]
 pub struct FieldRefusal {
     pub reason: Reason,
@@ -45,7 +45,7 @@ impl FieldRefusal {
     }
 }
 
-// What a rule and a directive have in common.
+// What a rule and a directive have in common. A third type beside both: a reader does not know yet which it is.
 #[derive(Clone, Copy)]
 pub struct Record {
     pub action: Action,
@@ -121,7 +121,8 @@ fn check(unread: Reason, unfit: Reason, bounds: Result<Span, Unfit>) -> Result<S
     })
 }
 
-// A field of a block by its reader; the fields of a block are counted from 0, and past the last one a port is read.
+// A field of a block by its reader; the fields of a block are counted from 0, and past the last one a port is read. By number:
+// `readers` has them in this order.
 fn read_field(field: usize, text: &[u8]) -> Result<Span, Reason>
     ensures { result ≡ get_or readers field port_reader text.now }
 {
@@ -156,7 +157,7 @@ pub fn read_block(line: &[u8], k: u8) -> Result<Block, FieldRefusal>
             }
         }
     }
-    Ok(Block::of_bounds(bounds))
+    Ok(Block::from(bounds))
 }
 
 // What a rule and a directive have in common, in a line whose word and action stand before the block; full tells that there is no room

@@ -15,7 +15,8 @@ ghost use Rattle.printing.specs.Lines.{refused_line};
 ghost use Rattle.report.specs.Inner.{FilesPut, SetsPut, VerdictPut, ListingPut, bounds_at, row_line, row_lines};
 ghost use Rattle.report.specs.Runs.{Reported, file_of, holding, most_block_lines};
 
-use blocks::{BOUNDS, Block, FIELDS, Packet};
+use blocks::{BOUNDS, Block, Packet};
+use charts::Charts;
 use layout::ROW;
 use putting::Output;
 use sets::{Label, Policy, Refusal, Rules};
@@ -81,82 +82,38 @@ fn report_sets(rules: Rules, policy: Policy, output: &mut Output)
     requires { InForm rules policy }
     ensures { SetsPut rules policy output.old output.new }
 {
-    let sets = ChartedSets::new(rules, policy);
-    sets.put_verdict(output);
-    sets.put_listing(output);
+    let mut charts = Charts::EMPTY;
+    charts.fill(rules, policy);
+    put_verdict(rules, policy, &charts, output);
+    put_listing(rules, policy, &charts, output);
 }
 
-// Two sets with their chart: what is asked and done in each strip, how many strips each field has, and where they begin. That they are
-// charted is asked by the methods: a ghost field takes a proposition alone, and `Charted` tells the numbers too.
-#[derive(Drop)]
-struct ChartedSets {
-    rules: Rules,
-    policy: Policy,
-    words: [u64; layout::WORDS],
-    counts: [usize; FIELDS],
-    places: [u64; layout::PLACES],
+// The verdict.
+fn put_verdict(rules: Rules, policy: Policy, charts: &Charts, output: &mut Output)
+    requires limited { Limited rules policy }
+    requires charted { Charted rules policy charts.now.words charts.now.counts charts.now.places }
+    ensures { VerdictPut rules policy output.old output.new }
+{
+    match findings::verdict(rules, policy, charts) {
+        Some(found) => {
+            let accept = found.accept_directive.unwrap_or(0);
+            let deny = found.deny_directive.unwrap_or(0);
+            printing::put_verdict(output, found.label, accept, deny, found.packet)
+        }
+        None => printing::put_verdict(output, Label::Good, 0, 0, Packet::LOWEST),
+    }
 }
 
-impl ChartedSets {
-    // Two sets in form, charted.
-    fn new(rules: Rules, policy: Policy) -> ChartedSets
-        requires { InForm rules policy }
-        ensures sets { (result.rules ≡ rules) × (result.policy ≡ policy) }
-        ensures charted { Charted rules policy result.words result.counts result.places }
-    {
-        let mut words = [0; layout::WORDS];
-        let mut counts = [0; FIELDS];
-        let mut places = [0; layout::PLACES];
-        charts::chart(rules, policy, &mut words, &mut counts, &mut places);
-        ChartedSets {
-            rules,
-            policy,
-            words,
-            counts,
-            places,
-        }
-    }
-
-    // The verdict.
-    fn put_verdict(&self, output: &mut Output)
-        requires limited { Limited self.now.rules self.now.policy }
-        requires charted { Charted self.now.rules self.now.policy self.now.words self.now.counts self.now.places }
-        ensures { VerdictPut self.now.rules self.now.policy output.old output.new }
-    {
-        match findings::verdict(
-            self.rules,
-            self.policy,
-            &self.words,
-            &self.counts,
-            &self.places,
-        ) {
-            Some(found) => {
-                let accept = found.accept_directive.unwrap_or(0);
-                let deny = found.deny_directive.unwrap_or(0);
-                printing::put_verdict(output, found.label, accept, deny, found.packet)
-            }
-            None => printing::put_verdict(output, Label::Good, 0, 0, Packet::LOWEST),
-        }
-    }
-
-    // The total and the first blocks of the listing.
-    fn put_listing(&self, output: &mut Output)
-        requires limited { Limited self.now.rules self.now.policy }
-        requires charted { Charted self.now.rules self.now.policy self.now.words self.now.counts self.now.places }
-        ensures { ListingPut self.now.rules self.now.policy output.old output.new }
-    {
-        let mut rows = [0; ROWS];
-        let total = findings::listing(
-            self.rules,
-            self.policy,
-            &self.words,
-            &self.counts,
-            &self.places,
-            &mut rows,
-        );
-        printing::put_total(output, total);
-        put_rows(&rows, shown(total), output);
-    }
+// The total and the first blocks of the listing.
+fn put_listing(rules: Rules, policy: Policy, charts: &Charts, output: &mut Output)
+    requires limited { Limited rules policy }
+    requires charted { Charted rules policy charts.now.words charts.now.counts charts.now.places }
+    ensures { ListingPut rules policy output.old output.new }
+{
+    let mut rows = [0; ROWS];
+    let total = findings::listing(rules, policy, charts, &mut rows);
+    printing::put_total(output, total);
+    put_rows(&rows, shown(total), output);
 }
 
 // How many blocks of a listing are printed.
@@ -166,7 +123,7 @@ fn shown(total: u64) -> usize
     total.min(MOST_BLOCK_LINES as u64) as usize
 }
 
-// The first rows as lines.
+// The first rows as lines. By number: the theorem `bounds_copied` has the bounds of a row from a place on.
 fn put_rows(rows: &[u32], count: usize, output: &mut Output)
     requires { row_numbers * count ≤ length rows.now }
     ensures { PutOn output.old (row_lines rows.now count) output.new }
@@ -183,7 +140,7 @@ fn put_row(rows: &[u32], from: usize, output: &mut Output)
 {
     let kind = rows[from];
     let rule = rows[from + 1];
-    let block = Block::of_bounds(bounds_at(rows, from + 2));
+    let block = Block::from(bounds_at(rows, from + 2));
     printing::put_block(output, kind, rule, block)
 }
 

@@ -18,21 +18,23 @@ use Rattle.sets.specs.Inner.{in_form}
 use Rattle.sets.specs.Vocabulary.{rule_of}
 use Rattle.sets.specs.Listed.{rule_set}
 use Rattle.sets.specs.declared.Reason.TheVariants.{UnknownWord}
+use Rattle.sets.specs.declared.Refusal.{Refusal}
 use Rattle.sets.specs.declared.Rule.{Rule}
 use Rattle.sets.specs.declared.Rules.{Rules}
-use Rattle.sets.proofs.Padding.{padded_set}
+use Rattle.sets.proofs.Padding.{padded_set, no_rules_lem}
 use Rattle.lines.specs.Reader.{line_at, line_from, cursor_after, cursor_behind}
 use Rattle.lines.specs.declared.Cursor.{Cursor}
 use Rattle.lines.proofs.Stepping.{found_bytes, found_after}
-use Rattle.texts.specs.Texts.{most_bytes, refusal, lines_of, Said, goes, stops, read_from}
-use Rattle.texts.proofs.Reading.{Reading, begun, stepped, halted, finished}
+use Rattle.texts.specs.Texts.{most_bytes, refusal, lines_of, Said, goes, stops, refused_alone, read_from, read_text}
+use Rattle.texts.proofs.Reading.{Reading, begun, stepped, halted, finished, Alike, met}
 use Rattle.records.specs.Readers.{refused}
 use Rattle.records.specs.Records.{skipped, named, read_record, on_record}
 use Rattle.records.specs.declared.FieldRefusal.{FieldRefusal}
 use Rattle.records.specs.declared.Record.{Record}
 use Rattle.records.proofs.Forming.{RecordInForm, read_record_in_form}
-use Rattle.rule_text.specs.Inner.{rule_added}
-use Rattle.rule_text.specs.RuleTexts.{rule_record, says, rule_line, on_rule_line, said_rule, all_rules, no_rules}
+use Rattle.rule_text.specs.Inner.{rule_added, no_rules_read, line_said}
+use Rattle.rule_text.specs.declared.RulesRead.{RulesRead}
+use Rattle.rule_text.specs.RuleTexts.{rule_record, says, rule_line, on_rule_line, said_rule, all_rules, no_rules, read_rules}
 
 -- a rule that a line says came where there was room for it, and is in form
 abbrev pub SaidRight : ℕ → Result (Option Rule) FieldRefusal → Type 0
@@ -53,6 +55,10 @@ said_right count line =
     go false true (Err r) h = tt
     go false true (Ok r) h = (leb-false most_rules count h.0, h.1)
 
+-- a rule that a line says has room
+pub rule_has_room : (count : ℕ) (line : List ℕ) (r : Rule) → rule_line count line ≡ Ok (Some r) → count < most_rules
+rule_has_room count line r e = (subst (SaidRight count) e (said_right count line)).0
+
 -- an empty line says nothing
 pub says_nothing : (rs : List Rule) → said_rule rs [] ≡ goes rs
 unfolding rule_line
@@ -62,7 +68,7 @@ says_nothing rs = refl
 added_is : (rs : List Rule) (r : Rule) → length rs < most_rules → rule_added (rule_set rs) r ≡ rule_set (rs ++ (r ∷ []))
 added_is rs r h = λ i. record { count = sym (length-append rs (r ∷ [])) i; records = padded_set most_rules zero_rule rs r h i }
 
--- the loop's invariant: the set is that of the rules read so far, and reading stands at the cursor
+-- the set is that of the rules read so far, and reading stands at the cursor
 pub record Read (t : List ℕ) (c : Cursor) (s : Rules) : Type 0 where
   pub rs : List Rule
   pub is : s ≡ rule_set rs
@@ -94,7 +100,7 @@ module _ (text : Bor (List ℕ)) (c : Cursor) (s : Rules) (h : Read text.now c s
   reads o' e = ap then (ap (λ (x : Rules). rule_line x.count (line_at t c.at)) (sym h.is) ∙ sym said_there ∙ e)
 
   pub has_room : (r : Rule) → o ≡ Ok (Some r) → s.count < most_rules
-  has_room r e = (subst (SaidRight s.count) (sym said_there ∙ e) (said_right s.count (line_at t c.at))).0
+  has_room r e = rule_has_room s.count (line_at t c.at) r (sym said_there ∙ e)
 
   -- reading stands behind the line, which says these rules
   read_on : (c' : Cursor) → c' ≡ cursor_behind c (length line.now) → (rs : List Rule) → said_rule h.rs (line_at t c.at) ≡ goes rs
@@ -118,3 +124,31 @@ module _ (text : Bor (List ℕ)) (c : Cursor) (s : Rules) (h : Read text.now c s
   pub read_stop : (r : FieldRefusal) → o ≡ Err r
       → read_from said_rule all_rules no_rules 1 [] (lines_of t) ≡ no_rules [] (refusal r.reason c.line r.field)
   read_stop r e = halted said_rule all_rules no_rules says_nothing [] t c.at c.line h.rs h.reading inside r.reason r.field (reads (Err r) e)
+
+-- the set that a list of rules stands for is read as the list is
+abbrev Stands : List Rule → RulesRead → Type 0
+Stands rs read = read ≡ record { rules = rule_set rs }
+
+said_alike : (rs : List Rule) (read : RulesRead) (line : List ℕ) → Stands rs read → Alike Stands (said_rule rs line) (line_said read line)
+said_alike rs read line e =
+    subst (λ (x : RulesRead). Alike Stands (said_rule rs line) (line_said x line)) (sym e)
+    (go (rule_line (length rs) line) (said_right (length rs) line))
+  where
+    go : (o : Result (Option Rule) FieldRefusal) → SaidRight (length rs) o
+        → Alike Stands (on_rule_line o (goes rs) (λ r. goes (rs ++ (r ∷ []))) stops)
+        (on_rule_line o (goes (record { rules = rule_set rs })) (λ r. goes (record { rules = rule_added (rule_set rs) r })) stops)
+    go (Ok None) h = refl
+    go (Ok (Some r)) h = ap (λ (x : Rules). record { rules = x }) (added_is rs r h.0)
+    go (Err r) h = (refl, refl)
+
+-- the answer that hands back the set alone
+abbrev pub set_alone : Result RulesRead Refusal → Result Rules Refusal
+set_alone (Ok read) = Ok read.rules
+set_alone (Err r) = Err r
+
+pub rules_met : (t : List ℕ) → read_rules t ≡ set_alone (read_text line_said Ok refused_alone no_rules_read t)
+unfolding read_rules
+rules_met t =
+    met said_rule all_rules no_rules line_said Ok refused_alone Stands (λ (x : Result Rules Refusal) y. x ≡ set_alone y)
+    said_alike (λ rs read e. ap (λ (x : RulesRead). Ok x.rules) (sym e)) (λ rs read r. refl)
+    [] no_rules_read t (ap (λ (x : Rules). record { rules = x }) (sym no_rules_lem))

@@ -4,45 +4,54 @@
 
 #![tactic(auto)]
 
-ghost use Rattle.std.specs.Prelude.{[], ◌≡◌, ◌≤◌, ◌<◌, length};
+ghost use Rattle.std.specs.Prelude.{◌≡◌, ◌<◌};
 ghost use Rattle.meaning.specs.Form.{most_rules};
-ghost use Rattle.texts.specs.Texts.{most_bytes, lines_of, read_from};
-ghost use Rattle.rule_text.specs.Inner.{rule_added};
-ghost use Rattle.rule_text.specs.RuleTexts.{rule_record, rule_line, said_rule, all_rules, no_rules, read_rules};
+ghost use Rattle.rule_text.specs.Inner.{rule_added, line_said, no_rules_read, none_said};
+ghost use Rattle.rule_text.specs.RuleTexts.{rule_record, rule_line, read_rules};
 
-use lines::Cursor;
 use records::{FieldRefusal, Record};
 use sets::{MOST_RULES, Reason, Refusal, Rule, Rules};
+use texts::LineByLine;
+
+// The rules read so far; the `impl` has to be of a type of this crate.
+#[derive(Clone, Copy)]
+struct RulesRead {
+    rules: Rules,
+}
+
+impl LineByLine for RulesRead {
+    ghost said = { line_said };
+
+    ghost none = { no_rules_read };
+
+    ghost kept = { λ read. Unit {0} };
+
+    fn nothing() -> RulesRead {
+        RulesRead {
+            rules: Rules::empty(),
+        }
+    }
+
+    #[tactic(auto, using(crate::proofs::RuleReading::rule_has_room))]
+    fn read_line(&mut self, line: &[u8], number: u32) -> Result<(), Refusal> {
+        match rule_line(line, self.rules.count) {
+            Ok(None) => {}
+            Ok(Some(rule)) => add_rule(&mut self.rules, rule),
+            Err(refused) => return Err(refused.at_line(number)),
+        }
+        Ok(())
+    }
+
+    ghost says_nothing = { none_said };
+}
 
 // What a rule text means.
-#[tactic(auto, using(texts::proofs::Reading::unrefused_fits), unfolding(crate::specs::RuleTexts::read_rules))]
+#[tactic(auto, using(crate::proofs::RuleReading::rules_met))]
 pub fn read_rules(text: &[u8]) -> Result<Rules, Refusal>
     ensures { result ≡ read_rules text.now }
 {
-    texts::refuse_text(text)?;
-    read_lines(text)
-}
-
-// The lines of a text, one after another. The loop goes from cursor to cursor, as the document reads, and is this reader's own, though
-// the policy's is like it: the laws of proofs/RuleReading and the wrong programs about lines left out or read again are about it.
-fn read_lines(text: &[u8]) -> Result<Rules, Refusal>
-    requires { length text.now ≤ most_bytes }
-    ensures { result ≡ read_from said_rule all_rules no_rules 1 [] (lines_of text.now) }
-{
-    let mut rules = Rules::empty();
-    let mut cursor = Cursor { at: 0, line: 1 };
-    while cursor.at < text.len() {
-        let line = cursor.line;
-        let found = lines::line_at(text, cursor.at, cursor.line);
-        let said = rule_line(found, rules.count);
-        cursor = lines::behind(cursor.at, cursor.line, found.len());
-        match said {
-            Ok(None) => {}
-            Ok(Some(rule)) => add_rule(&mut rules, rule),
-            Err(refused) => return Err(refused.at_line(line)),
-        }
-    }
-    Ok(rules)
+    let read: RulesRead = texts::read_text(text)?;
+    Ok(read.rules)
 }
 
 // What a line says, after so many rules: nothing, or a rule.
@@ -63,7 +72,7 @@ fn rule_line(line: &[u8], count: usize) -> Result<Option<Rule>, FieldRefusal>
     })
 }
 
-// A `rule` line, after so many rules.
+// A `rule` line, after so many rules. What it has in common with an `ask` line is `read_record`; what is left is the limit and the type.
 #[tactic(auto, unfolding(crate::specs::RuleTexts::rule_record))]
 fn rule_record(line: &[u8], count: usize) -> Result<Rule, FieldRefusal>
     ensures { result ≡ rule_record count line.now }

@@ -31,27 +31,29 @@ pub struct Rule {
     pub block: Block,
 }
 
-// A rule table: its rules are numbered from 1 and stand in the records from 0 on.
+// A rule table: its rules are numbered from 1 and stand in the records from 0 on. A count beside the records and no `Vec`, here and in
+// `Policy`: memory is fixed, and a caller's count may be past the records, which is refused.
 #[derive(Clone, Copy)]
 pub struct Rules {
     pub count: usize,
     pub records: [Rule; MOST_RULES],
 }
 
-// A directive without its exceptions.
+// A directive without its exceptions. A type of its own, though a rule has the same fields: no directive is taken for a rule.
 #[derive(Clone, Copy)]
 pub struct Directive {
     pub action: Action,
     pub block: Block,
 }
 
-// An exception of the directive with this number, counted from 1.
+// An exception of the directive with this number, counted from 1. 0 names none; a caller may write it, and it is out of form.
 #[derive(Clone, Copy)]
 pub struct Exception {
     pub directive: u32,
     pub block: Block,
 }
 
+// A policy. The rules stand apart from it: a call on one of the two takes that one, and a count of either may be past its limit.
 #[derive(Clone, Copy)]
 pub struct Policy {
     pub directive_count: usize,
@@ -91,7 +93,7 @@ pub enum Reason {
 }
 
 // Why a call gave no answer, and where: a line and a field, each 0 where none is named. Out of form are the rules at line 1,
-// the policy at line 2, the packet at line 3.
+// the policy at line 2, the packet at line 3. Zeros and no `Option`: `refusal_of` gives the three numbers that are printed.
 #[derive(Clone, Copy, PartialEq, Eq)]
 pub struct Refusal {
     pub reason: Reason,
@@ -149,7 +151,7 @@ impl Policy {
 }
 
 impl Reason {
-    // The number of the refusal.
+    // The number of the refusal, written out: `reason_number` has the table.
     pub fn number(self) -> u32
         ensures { result ≡ reason_number self }
     {
@@ -173,7 +175,7 @@ impl Reason {
 }
 
 impl Label {
-    // The number of the label's kind.
+    // The number of the label's kind: the table of kinds numbers them, and `kind` says it.
     pub fn kind(self) -> u32
         ensures { result ≡ kind (label_of self) }
     {
@@ -187,7 +189,7 @@ impl Label {
         }
     }
 
-    // The number of the rule in the label, or 0.
+    // The number of the rule in the label, or 0, as the table of kinds has it.
     pub fn rule(self) -> u32
         ensures { result ≡ rule (label_of self) }
     {

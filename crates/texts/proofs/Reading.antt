@@ -10,15 +10,19 @@ use Prim.Native.Nat.{ℕ, suc, ◌+◌, ◌≤◌, ◌<◌}
 use borrow.Author.Tests.{ltb-false}
 use lib.Dec.{ltb}
 use lib.ListN.{length, get_or, drop}
+use denote.Ref.{Bor}
+use Rattle.contracts.specs.Answers.{seen}
+use Rattle.parts.specs.Parts.{shown}
 use Rattle.parts.specs.Words.{newline}
 use Rattle.parts.proofs.Parting.{part_here, parts_next, parts_last, part_fits, at_end}
 use Rattle.sets.specs.declared.Reason.TheVariants.{TooLong, Unended}
 use Rattle.sets.specs.declared.Reason.{Reason}
 use Rattle.sets.specs.declared.Refusal.{Refusal}
-use Rattle.lines.specs.Reader.{line_at, cursor_after}
+use Rattle.lines.specs.Reader.{line_at, line_from, cursor_after, cursor_behind}
 use Rattle.lines.specs.declared.Cursor.{Cursor}
-use Rattle.lines.proofs.Stepping.{cursor_after_lem}
-use Rattle.texts.specs.Texts.{most_bytes, unended, refusal, refuse_text, lines_of, Said, goes, stops, on_said, on_text, read_from, read_text}
+use Rattle.lines.proofs.Stepping.{cursor_after_lem, found_bytes, found_after}
+use Rattle.texts.specs.Texts.{most_bytes, unended, refusal, refuse_text, lines_of, Said, goes, stops, on_said, on_text}
+use Rattle.texts.specs.Texts.{line_told, line_read, refused_alone, read_from, read_text}
 
 -- a text that is not refused as a whole is not too long
 pub unrefused_fits : (t : List ℕ) → refuse_text t ≡ Ok tt → length t ≤ most_bytes
@@ -138,3 +142,82 @@ module _ {S R : Type 0} (said : S → List ℕ → Said S) (all : S → R) (refu
 
     pub answered : (s : S) (t : List ℕ) → Has (read_text said all refused s t)
     answered s t = kept (λ (s' : S). Unit {0}) Has (λ s' l h. anything (said s' l)) (λ s' h. done s') stopped s t tt
+
+-- a call that reads a line was not refused: the line says what is read then
+pub went : {S : Type 0} (n : ℕ) (s s' : S) (x : Said S) → Ok tt ≡ line_told n x → s' ≡ line_read s x → x ≡ goes s'
+went n s s' (goes v) e r = ap goes (sym r)
+went n s s' (stops reason field) e r = absurd (subst Fine e tt)
+  where
+    Fine : Result (Unit {0}) Refusal → Type 0
+    Fine (Ok u) = Unit {0}
+    Fine (Err q) = ⊥
+
+-- it was refused: the line says that refusal
+pub stayed : {S : Type 0} (n : ℕ) (r : Refusal) (x : Said S) → Err r ≡ line_told n x → x ≡ stops r.reason r.field × (r ≡ refusal r.reason n r.field)
+stayed n r (goes v) e = absurd (subst Halts e tt)
+  where
+    Halts : Result (Unit {0}) Refusal → Type 0
+    Halts (Ok u) = ⊥
+    Halts (Err q) = Unit {0}
+stayed n r (stops reason field) e =
+    let is : r ≡ refusal reason n field = ap told e in
+    (λ i. stops (sym is i).reason (sym is i).field, is ∙ (λ i. refusal (sym is i).reason n (sym is i).field))
+  where
+    told : Result (Unit {0}) Refusal → Refusal
+    told (Ok u) = r
+    told (Err q) = q
+
+-- one turn of the loop: the call that reads the line found at the cursor answers o
+module _ {S : Type 0} (said : S → List ℕ → Said S) (nothing : (s : S) → said s [] ≡ goes s) (first : S) (text : Bor (List ℕ)) (c : Cursor) (s : S)
+    (h : Reading said Ok refused_alone first text.now c.at c.line s) (fits : length text.now ≤ most_bytes) (inside : c.at < length text.now)
+    (line : Bor (List ℕ)) (found : seen line ≡ shown text (line_from text.now c.at))
+    (o : Result (Unit {0}) Refusal) (answer : o ≡ line_told c.line (said s line.now)) where
+  there : said s (line_at text.now c.at) ≡ said s line.now
+  there = ap (said s) (sym (found_bytes text line c found))
+
+  pub line_went : o ≡ Ok tt → (s' : S) → s' ≡ line_read s (said s line.now) → (c' : Cursor) → c' ≡ cursor_behind c (length line.now)
+      → Reading said Ok refused_alone first text.now c'.at c'.line s'
+  line_went e s' r c' q =
+      let moved : c' ≡ cursor_after text.now c = found_after text line c found inside (omega arith) c' q in
+      let says = there ∙ went c.line s s' (said s line.now) (sym e ∙ answer) r in
+      stepped said Ok refused_alone nothing first text.now c.at c.line s h fits inside c' moved s' says
+
+  pub line_stopped : (r : Refusal) → o ≡ Err r → read_from said Ok refused_alone 1 first (lines_of text.now) ≡ Err r
+  line_stopped r e =
+      let stop = stayed c.line r (said s line.now) (sym e ∙ answer) in
+      halted said Ok refused_alone nothing first text.now c.at c.line s h inside r.reason r.field (there ∙ stop.0) ∙ ap Err (sym stop.1)
+
+-- two kinds of line say the same, each by its own form of what is read: both go on, to what stands for one another, or both stop alike
+abbrev pub Alike : {S T : Type 0} → (S → T → Type 0) → Said S → Said T → Type 0
+Alike Stands (goes s) (goes v) = Stands s v
+Alike Stands (stops k f) (stops k' f') = (k ≡ k') × (f ≡ f')
+Alike Stands (goes s) (stops k f) = ⊥
+Alike Stands (stops k f) (goes v) = ⊥
+
+-- the answers to a text meet, where the answers at the end and to each refusal do
+module _ {S R T Q : Type 0} (said : S → List ℕ → Said S) (all : S → R) (refused : S → Refusal → R)
+    (said' : T → List ℕ → Said T) (all' : T → Q) (refused' : T → Refusal → Q) (Stands : S → T → Type 0) (Meets : R → Q → Type 0)
+    (alike : (s : S) (v : T) (l : List ℕ) → Stands s v → Alike Stands (said s l) (said' v l))
+    (done : (s : S) (v : T) → Stands s v → Meets (all s) (all' v)) (stopped : (s : S) (v : T) (r : Refusal) → Meets (refused s r) (refused' v r)) where
+  met_from : (n : ℕ) (s : S) (v : T) (ls : List (List ℕ)) → Stands s v
+      → Meets (read_from said all refused n s ls) (read_from said' all' refused' n v ls)
+  met_from n s v [] h = done s v h
+  met_from n s v (l ∷ ls) h = go (λ s' v' k. met_from (suc n) s' v' ls k) (said s l) (said' v l) (alike s v l h)
+    where
+      go : ((s' : S) (v' : T) → Stands s' v' → Meets (read_from said all refused (suc n) s' ls) (read_from said' all' refused' (suc n) v' ls))
+          → (o : Said S) (o' : Said T) → Alike Stands o o'
+          → Meets (on_said o (λ s'. read_from said all refused (suc n) s' ls) (λ reason field. refused s (refusal reason n field)))
+          (on_said o' (λ v'. read_from said' all' refused' (suc n) v' ls) (λ reason field. refused' v (refusal reason n field)))
+      go rest (goes s') (goes v') k = rest s' v' k
+      go rest (stops k f) (stops k' f') e =
+          subst (λ (x : Refusal). Meets (refused s (refusal k n f)) (refused' v x)) (λ i. refusal (e.0 i) n (e.1 i)) (stopped s v (refusal k n f))
+      go rest (goes s') (stops k f) e = absurd e
+      go rest (stops k f) (goes v') e = absurd e
+
+  pub met : (s : S) (v : T) (t : List ℕ) → Stands s v → Meets (read_text said all refused s t) (read_text said' all' refused' v t)
+  met s v t h = go (refuse_text t)
+    where
+      go : (o : Result (Unit {0}) Refusal) → Meets (on_text o (refused s) (read_from said all refused 1 s (lines_of t)))
+          (on_text o (refused' v) (read_from said' all' refused' 1 v (lines_of t)))
+      go (Ok u) = met_from 1 s v (lines_of t) h
+      go (Err r) = stopped s v r

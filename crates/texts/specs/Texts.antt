@@ -39,6 +39,18 @@ abbrev pub on_said : {S R : Type 0} → Said S → (S → R) → (Reason → ℕ
 on_said (goes s) go stop = go s
 on_said (stops reason field) go stop = stop reason field
 
+-- what the call that reads a line answers, by the line's number and what it says
+abbrev pub line_told : {S : Type 0} → ℕ → Said S → Result (Unit {0}) Refusal
+line_told n x = on_said x (λ s. Ok tt) (λ reason field. Err (refusal reason n field))
+
+-- and what is read then: a refused line adds nothing
+abbrev pub line_read : {S : Type 0} → S → Said S → S
+line_read s x = on_said x (λ s'. s') (λ reason field. s)
+
+-- the answer to a refusal is that refusal, whatever was read before it
+abbrev pub refused_alone : {S : Type 0} → S → Refusal → Result S Refusal
+refused_alone s r = Err r
+
 -- stop at what is refused of a text as a whole, or go on to its lines
 abbrev pub on_text : {R : Type 0} → Result (Unit {0}) Refusal → (Refusal → R) → R → R
 on_text (Ok u) stop go = go

@@ -24,11 +24,18 @@ impl<'a> Arguments<'a> {
         u32::from_le_bytes([self.byte(), self.byte(), self.byte(), self.byte()])
     }
 
-    // Takes a number of 64 bits: its low half, then its high half.
+    // Takes a number of 64 bits, the lowest byte first.
     pub(crate) fn long_number(&mut self) -> u64 {
-        let low = u64::from(self.number());
-        let high = u64::from(self.number());
-        high << 32 | low
+        u64::from_le_bytes([
+            self.byte(),
+            self.byte(),
+            self.byte(),
+            self.byte(),
+            self.byte(),
+            self.byte(),
+            self.byte(),
+            self.byte(),
+        ])
     }
 
     // Takes a packet's numbers.

@@ -1,5 +1,5 @@
-// The input as a stream of bytes. The other harness fills its buffer likewise, but takes whole lines; a crate that both would stand
-// on for this alone would be no plainer.
+// The input as a stream of bytes. The other harness fills its buffer likewise, but takes whole lines; a crate for the few
+// lines that both have (this, `Shown`, blocks from numbers) would be no plainer.
 
 ghost use Rattle.std.specs.Prelude.{◌≤◌, vec_len};
 
@@ -10,7 +10,7 @@ use std::io::{Read, Result};
 // How many bytes are held at most.
 const ROOM: usize = 131_072;
 
-// What is read of the input and not taken yet: the buffer's bytes from start on.
+// What is read of the input and not taken yet: the buffer's bytes from start on. No `BufReader`: a request is lent whole from the buffer.
 #[derive(Drop)]
 pub(crate) struct Stream<R> {
     reader: R,

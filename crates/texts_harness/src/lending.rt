@@ -15,7 +15,7 @@ const PUT_ROOM: usize = 200;
 pub(crate) const PUT_BYTES: usize = 216;
 
 // The place that a report gives, lent the first bytes, at most so many. The rules can be read if `readable` is odd, the policy if
-// half of it is.
+// half of it is: a request tells both by one number.
 pub(crate) fn report(
     readable: usize,
     room: usize,

@@ -36,7 +36,7 @@ fn put_verdict(output: &mut Output, mut arguments: Arguments<'_>) {
     printing::put_verdict(output, label, accept, deny, packet)
 }
 
-// The label of a kind modulo 6, with this rule if it has one.
+// The label of a kind modulo 6, with this rule if it has one. No `From`: both types are of other crates.
 fn label(kind: u32, rule: u32) -> Label {
     match kind % 6 {
         0 => Label::Good,

@@ -131,7 +131,7 @@ impl<'a> Cursor<'a> {
         })
     }
 
-    // `which room length length`, with both texts.
+    // `readable room length length`, with both texts.
     fn report(&mut self) -> Option<Request<'a>> {
         Some(Request::Report {
             readable: self.number()?,
@@ -140,7 +140,7 @@ impl<'a> Cursor<'a> {
         })
     }
 
-    // `which start length`, with a payload of arguments.
+    // `call start length`, with a payload of arguments.
     fn put(&mut self) -> Option<Request<'a>> {
         Some(Request::Put {
             call: self.number()?,

@@ -3,7 +3,7 @@
 ghost use Rattle.std.specs.Prelude.{◌≤◌, length};
 
 use crate::shown::Shown;
-use blocks::Block;
+use blocks::{BOUNDS, Block};
 use sets::{Action, Directive, Exception, Rule};
 use std::fmt;
 
@@ -57,11 +57,12 @@ pub(crate) fn filled<T: Record>(records: &[T]) -> usize
 // A record's number, then its block's bounds.
 fn numbers(number: u32, block: Block) -> [u32; NUMBERS] {
     let mut numbers = [number; NUMBERS];
-    numbers[1..].copy_from_slice(&block.bounds());
+    let bounds: [u32; BOUNDS] = block.into();
+    numbers[1..].copy_from_slice(&bounds);
     numbers
 }
 
-// 0 for deny, 1 for accept.
+// 0 for deny, 1 for accept. No `From`: both types are of other crates.
 fn action_number(action: Action) -> u32 {
     match action {
         Action::Deny => 0,

@@ -7,5 +7,5 @@ use Rattle.charts.proofs.size_of.Goals as goal
 
 pub returns : goal.returns
 returns c =
-    let widest = c.bounds-widest.ensures ∙ ap bounds c.widest.ensures in
+    let widest = c.into-widest.ensures ∙ ap bounds c.widest.ensures in
     ap (λ (high : ℕ). high + 1) c.from.ensures ∙ size_is _ _ widest c.requires

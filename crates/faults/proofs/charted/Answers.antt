@@ -4,5 +4,5 @@ use Rattle.meaning.specs.Form.{Refusal}
 use Rattle.findings.proofs.Forming.{in_form_limited}
 use Rattle.faults.proofs.charted.Goals as goal
 
-pub chart-requires-clause-limited : goal.chart-requires-clause-limited
-chart-requires-clause-limited c = in_form_limited _ _ (ap (λ (r : Refusal). r.number) (sym c.in_ok-refuse_sets.ensures))
+pub fill-requires : goal.fill-requires
+fill-requires c = in_form_limited _ _ (ap (λ (r : Refusal). r.number) (sym c.in_ok-refuse_sets.ensures))

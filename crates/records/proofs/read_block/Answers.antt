@@ -28,4 +28,4 @@ pub returns : goal.returns
 returns c =
     let at = c.loop-i in
     let a = c.args in
-    read_all a.line.now a.k at.i at.bounds at.invariant _ (omega arith) c.of_bounds.ensures
+    read_all a.line.now a.k at.i at.bounds at.invariant _ (omega arith) c.from.ensures

@@ -6,4 +6,4 @@ use Rattle.report.proofs.put_row.Goals as goal
 
 pub returns : goal.returns
 returns c =
-    on_same (row_line_lem _ _ _ _ _ refl refl (c.of_bounds-block.ensures ∙ c.bounds_at.ensures)) c.put_block.ensures
+    on_same (row_line_lem _ _ _ _ _ refl refl (c.from-block.ensures ∙ c.bounds_at.ensures)) c.put_block.ensures

@@ -11,13 +11,13 @@ use Rattle.printing.specs.Lines.{blocks_line}
 use Rattle.report.specs.Inner.{row_lines}
 use Rattle.report.specs.Runs.{most_block_lines}
 use Rattle.report.proofs.RowLines.{listing_lines}
-use Rattle.report.proofs.ChartedSets.put_listing.Goals as goal
+use Rattle.report.proofs.put_listing.Goals as goal
 
 pub returns : goal.returns
 returns c =
     let args = c.args in
     let told = c.listing-total.ensures in
-    let formed = listing_in_form good fields (label_at args.self.now.rules args.self.now.policy) told.blocks told.listed in
+    let formed = listing_in_form good fields (label_at args.rules args.policy) told.blocks told.listed in
     let count = c.shown.ensures ∙ ap (λ (n : ℕ). min n most_block_lines) told.counted in
     let lines = (λ i. row_lines (told.written i) (count i)) ∙ listing_lines told.blocks _ (search rules) formed in
     record {
