@@ -5,40 +5,32 @@
 
 #![tactic(auto)]
 
-ghost use Rattle.std.specs.Prelude.{◌≡◌, IfOk};
-ghost use Rattle.sets.specs.Vocabulary.{refused_of};
-ghost use Rattle.bounds.specs.SetBlocks.{Limited};
-ghost use Rattle.charts.specs.Charted.{Charted};
-ghost use Rattle.faults.specs.Answers.{refused, JudgedAs, ListedAs};
+ghost use Rattle.faults.specs.Answers.{JudgedAs, ListedAs};
 
 use charts::Charts;
 use findings::Finding;
 use sets::{Policy, Refusal, Rules};
 
-// The verdict on the rules and the policy, None if the table conforms; or 14 if they are not in form.
+// The verdict on the rules and the policy, None if the table conforms; or 14 if they are not in form. The chart is filled in place, here and
+// in `listing`: one that a function hands back is copied, all 42 KB of it.
+#[tactic(auto, using(findings::proofs::Forming::in_form_limited))]
 pub fn verdict(rules: Rules, policy: Policy) -> Result<Option<Finding>, Refusal>
     ensures { JudgedAs rules policy result }
 {
-    Ok(findings::verdict(rules, policy, &charted(rules, policy)?))
+    form::refuse_sets(rules, policy)?; // no verdict beside a refusal
+    let mut charts = Charts::EMPTY;
+    charts.fill(rules, policy);
+    Ok(findings::verdict(rules, policy, &charts))
 }
 
 // How many blocks the fault listing has, or 14 if the rules or the policy are not in form. The first blocks that fit are written
 // to the buffer from the front, a row of numbers each: kind, rule, low and high of each field.
+#[tactic(auto, using(findings::proofs::Forming::in_form_limited))]
 pub fn listing(rules: Rules, policy: Policy, buffer: &mut [u32]) -> Result<u64, Refusal>
     ensures { ListedAs rules policy buffer.old buffer.new result }
 {
-    Ok(findings::listing(rules, policy, &charted(rules, policy)?, buffer))
-}
-
-// The chart of the rules and the policy, or 14 if they are not in form. It is handed back, and so copied, once a call; `report`, which the
-// program calls, fills one in place.
-fn charted(rules: Rules, policy: Policy) -> Result<Charts, Refusal>
-    ensures refusal { refused_of result ≡ refused rules policy }
-    ensures limited { IfOk result (λ charts. Limited rules policy) }
-    ensures charted { IfOk result (λ charts. Charted rules policy charts.words charts.counts charts.places) }
-{
-    form::refuse_sets(rules, policy)?;
+    form::refuse_sets(rules, policy)?; // the buffer stays
     let mut charts = Charts::EMPTY;
     charts.fill(rules, policy);
-    Ok(charts)
+    Ok(findings::listing(rules, policy, &charts, buffer))
 }

@@ -2,12 +2,10 @@
 use mathlib.Core.Bool.{Bool, true, false, ◌&&◌}
 use mathlib.Core.List.{List, [], ◌∷◌, map}
 use mathlib.Core.Path.{◌≡◌, refl, sym, ap, ◌∙◌}
-use native.Mathlib.Numerals.{add-one}
 use native.Mathlib.Omega.{arith}
 use Prim.Native.Nat.{ℕ, zero, suc, ◌+◌, ◌-◌, ◌≤◌, ◌<◌}
 use lib.Dec.{leb}
-use lib.ListN.{length, drop, get_or, drop_of_length-le}
-use lib.Seq.{drop-cons}
+use lib.ListN.{length, drop, get_or}
 use Rattle.meaning.specs.Blocks.{Block, inside}
 use Rattle.meaning.specs.Fields.{fields}
 use Rattle.meaning.specs.Form.{inside_of, block_in_form, exceptions_in_form}
@@ -18,6 +16,7 @@ use Rattle.sets.specs.Empty.{zero_exception}
 use Rattle.sets.specs.Vocabulary.{directive_of, exception_of}
 use Rattle.sets.specs.declared.Directive.{Directive}
 use Rattle.sets.specs.declared.Exception.{Exception}
+use Rattle.sets.proofs.Walks.{slice_next, slice_over}
 
 module _ (b : Block) where
   pub names_none : (n : ℕ) (ds : List Directive) → n ≡ 0 → inside_of (numbered (map directive_of ds) n) b ≡ false
@@ -51,9 +50,7 @@ module _ (ds : List Rule) (es : List Exception) (before : ℕ) where
     e = get_or es i zero_exception
 
     first : left before i ≡ exceptions_in_form fields ds before (exception_of e ∷ map exception_of (drop (i + 1) es))
-    first =
-        ap (λ (xs : List Exception). exceptions_in_form fields ds before (map exception_of xs))
-        (drop-cons es i zero_exception there ∙ (λ j. e ∷ drop (sym (add-one i) j) es))
+    first = ap (exceptions_in_form fields ds before) (slice_next exception_of es i zero_exception there)
 
     abbrev beside : Bool
     beside = leb before e.directive && inside_of (numbered ds e.directive) (block_of e.block) && block_in_form fields (block_of e.block)
@@ -68,4 +65,4 @@ module _ (ds : List Rule) (es : List Exception) (before : ℕ) where
 
   pub none_left : (i : ℕ) → length es ≤ i → left before i ≡ true
   unfolding exceptions_in_form
-  none_left i h = ap (λ (xs : List Exception). exceptions_in_form fields ds before (map exception_of xs)) (drop_of_length-le es h)
+  none_left i h = ap (exceptions_in_form fields ds before) (slice_over exception_of es i h)

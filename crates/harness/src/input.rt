@@ -1,10 +1,9 @@
 // The input as a stream of requests, one a line. The other harness fills its buffer likewise, but answers from the buffer itself; a
 // crate for the few lines that both have (this, `Shown`, blocks from numbers) would be no plainer.
 
-ghost use Rattle.std.specs.Prelude.{◌≤◌, vec_len};
+ghost use Rattle.std.specs.Prelude.{◌≡◌, ◌≤◌, length, IfOk, OnErr};
 
 use crate::requests::Request;
-use std::alloc::Global;
 use std::io::{Read, Result};
 
 // How many bytes are held at most.
@@ -13,40 +12,36 @@ const ROOM: usize = 65_536;
 // More bytes than a line has: a letter, and sixteen times a space and ten digits; or words behind `#`.
 const MOST_BYTES: usize = 1024;
 
-// What is read of the input and not taken yet: the buffer's bytes from start on. No `BufReader`: a line is cut at `MOST_BYTES`.
+// What is read of the input and not taken yet: the buffer's bytes from start up to end. No `BufReader`: a line is cut at `MOST_BYTES`.
 #[derive(Drop)]
 pub(crate) struct Requests<R> {
     reader: R,
-    buffer: Vec<u8>,
+    buffer: [u8; ROOM],
     start: usize,
-    ghost within: { start ≤ vec_len buffer },
+    end: usize,
+    ghost within: { (start ≤ end) × (end ≤ length buffer) },
 }
 
 impl<R: Read> Requests<R> {
     // The requests that a reader gives.
-    pub(crate) fn new(alloc: Global, reader: R) -> Result<Requests<R>>
-    where
-        R: Drop,
-    {
-        Ok(Requests {
+    pub(crate) fn new(reader: R) -> Requests<R> {
+        Requests {
             reader,
-            buffer: Vec::with_capacity(alloc, ROOM)?,
+            buffer: [0; ROOM],
             start: 0,
-        })
+            end: 0,
+        }
     }
 
     // Sees to it that the buffer has a whole line, if the input has one: where less than the longest is left, that moves to the
-    // start, and the room behind it is filled from the input. The one error is that of a read or of memory.
+    // start, and the room behind it is filled from the input. The one error is that of a read.
     fn refill(&mut self) -> Result<()> {
-        let left = self.buffer.len() - self.start;
+        let left = self.end - self.start;
         if left < MOST_BYTES {
-            self.buffer.drain(..self.start);
+            self.buffer.copy_within(self.start..self.end, 0);
             self.start = 0;
-            let room = (ROOM - left) as u64;
-            self.reader
-                .by_ref()
-                .take(room)
-                .read_to_end(&mut self.buffer)?;
+            self.end = left;
+            self.end += read_full(&mut self.reader, &mut self.buffer[left..])?;
         }
         Ok(())
     }
@@ -60,10 +55,27 @@ impl<R: Read + Drop> Iterator for Requests<R> {
         if let Err(error) = self.refill() {
             return Some(Err(error));
         }
-        let unread = &self.buffer[self.start..];
+        let unread = &self.buffer[self.start..self.end];
         let length = unread.iter().position(|byte| *byte == b'\n')?;
         let request = Request::read(&unread[..length]);
         self.start += length + 1;
         Some(Ok(request))
     }
+}
+
+// Reads until the buffer is full or the input ends, and gives how many bytes were read. The one error is that of a read; other bytes
+// may stand in the buffer then.
+fn read_full(reader: &mut impl Read, buffer: &mut [u8]) -> Result<usize>
+    ensures ok { IfOk result (λ end. end ≤ length buffer.new) }
+    ensures err { OnErr result (length buffer.new ≡ length buffer.old) }
+{
+    let mut end: usize = 0;
+    while end < buffer.len() {
+        let more = reader.read(&mut buffer[end..])?;
+        if more == 0 {
+            break;
+        }
+        end += more;
+    }
+    Ok(end)
 }

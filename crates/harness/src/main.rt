@@ -9,22 +9,24 @@
 
 mod input;
 mod lending;
+mod output;
 mod requests;
 mod sessions;
 mod shown;
 
 use input::Requests;
+use output::Output;
 use sessions::Session;
 use std::io;
-use std::io::{BufWriter, Result};
+use std::io::Result;
 
 // More lines than an input has; a bound, so that the program ends for every input.
 const MOST_LINES: usize = 1_000_000;
 
 // Answers the requests on standard input in order, each on the sets as those before it left them.
 fn main(rt: HostRuntime) -> Result<()> {
-    let requests = Requests::new(rt.alloc(), rt.reader())?;
-    let mut session = Session::new(BufWriter::new(rt.alloc(), io::writer(&rt))?);
+    let requests = Requests::new(rt.reader());
+    let mut session = Session::new(Output::new(io::writer(&rt)));
     for request in requests.take(MOST_LINES) {
         session.answer(request?)?;
     }

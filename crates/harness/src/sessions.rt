@@ -1,26 +1,25 @@
 // The sets as requests make them, and the answers. An answer is a line of words and numbers, parted by one space.
 
 use crate::lending;
+use crate::output::Output;
 use crate::requests::Request;
 use crate::shown::Shown;
 use blocks::{Block, Packet, Span};
 use sets::{Action, Directive, Exception, Label, Policy, Rule, Rules};
-use std::io::{Result, Write};
+use std::fmt::Write as _;
+use std::{fmt, io};
 
-// The sets as the requests left them, and where answers are written.
+// The sets as the requests left them, and where answers are made.
 #[derive(Drop)]
 pub(crate) struct Session<W> {
     rules: Rules,
     policy: Policy,
-    output: W,
+    output: Output<W>,
 }
 
-impl<W: Write> Session<W> {
+impl<W: io::Write> Session<W> {
     // Empty sets.
-    pub(crate) fn new(output: W) -> Session<W>
-    where
-        W: Drop,
-    {
+    pub(crate) fn new(output: Output<W>) -> Session<W> {
         Session {
             rules: Rules::EMPTY,
             policy: Policy::EMPTY,
@@ -29,7 +28,13 @@ impl<W: Write> Session<W> {
     }
 
     // Changes the sets or writes an answer, as a request asks.
-    pub(crate) fn answer(&mut self, request: Request) -> Result<()> {
+    pub(crate) fn answer(&mut self, request: Request) -> io::Result<()> {
+        let _ = self.make_answer(request);
+        self.output.send()
+    }
+
+    // Changes the sets or makes an answer. No error comes: the output takes each text.
+    fn make_answer(&mut self, request: Request) -> fmt::Result {
         match request {
             Request::Nothing => {}
             Request::NewRules { count } => self.new_rules(count),
@@ -57,7 +62,7 @@ impl<W: Write> Session<W> {
             Request::Chain { bounds, block } => self.tell_chain(bounds, block)?,
             Request::Widest => self.tell_widest()?,
         }
-        self.output.flush()
+        Ok(())
     }
 
     // The empty rules with this count.
@@ -99,7 +104,7 @@ impl<W: Write> Session<W> {
     }
 
     // What is refused of the rules, the policy and the packet, each alone, then of all; and whether the packet is in form.
-    fn tell_form(&mut self, packet: Packet) -> Result<()> {
+    fn tell_form(&mut self, packet: Packet) -> fmt::Result {
         writeln!(
             self.output,
             "form{}{}{}{} {}",
@@ -112,13 +117,13 @@ impl<W: Write> Session<W> {
     }
 
     // What is refused of the rules and the policy together.
-    fn tell_sets(&mut self) -> Result<()> {
+    fn tell_sets(&mut self) -> fmt::Result {
         let refused = form::refuse_sets(self.rules, self.policy);
         writeln!(self.output, "sets{}", Shown(&refused))
     }
 
     // The refusal, and the kind and rule of the packet's label.
-    fn tell_label(&mut self, packet: Packet) -> Result<()> {
+    fn tell_label(&mut self, packet: Packet) -> fmt::Result {
         let labelled = labels::label(self.rules, self.policy, packet);
         writeln!(
             self.output,
@@ -129,7 +134,7 @@ impl<W: Write> Session<W> {
     }
 
     // The deciding rule with its number, zeros if there is none, and the lowest directives that ask for accept and for deny.
-    fn tell_at(&mut self, packet: Packet) -> Result<()> {
+    fn tell_at(&mut self, packet: Packet) -> fmt::Result {
         writeln!(
             self.output,
             "at{}{}{}",
@@ -140,7 +145,7 @@ impl<W: Write> Session<W> {
     }
 
     // The refusal, the kind and rule of the verdict, the lowest directives that ask for accept and for deny, and the packet.
-    fn tell_verdict(&mut self) -> Result<()> {
+    fn tell_verdict(&mut self) -> fmt::Result {
         let judged = faults::verdict(self.rules, self.policy);
         writeln!(
             self.output,
@@ -151,7 +156,7 @@ impl<W: Write> Session<W> {
     }
 
     // The refusal and the total of the listing with a buffer of so many numbers lent, then these numbers and the ten behind them.
-    fn tell_listing(&mut self, lent: usize) -> Result<()> {
+    fn tell_listing(&mut self, lent: usize) -> fmt::Result {
         let lent = lent.min(lending::MOST_LENT);
         let mut numbers = [0; lending::MOST_TOLD];
         let listed = lending::list(self.rules, self.policy, lent, &mut numbers);
@@ -166,12 +171,12 @@ impl<W: Write> Session<W> {
     }
 
     // A word, and whether what it says is so.
-    fn tell_flag(&mut self, word: &str, flag: bool) -> Result<()> {
+    fn tell_flag(&mut self, word: &str, flag: bool) -> fmt::Result {
         writeln!(self.output, "{word} {}", u32::from(flag))
     }
 
     // Whether narrowing in the field shared numbers, and the block handed back. A request names the field by its number, from 1.
-    fn tell_narrow(&mut self, field: u32, bounds: Span, block: Block) -> Result<()> {
+    fn tell_narrow(&mut self, field: u32, bounds: Span, block: Block) -> fmt::Result {
         let narrowed = match field {
             1 => block.narrow_source(bounds),
             2 => block.narrow_destination(bounds),
@@ -187,7 +192,7 @@ impl<W: Write> Session<W> {
     }
 
     // The same for the four fields one after another, each on the block that the one before handed back.
-    fn tell_chain(&mut self, bounds: Block, block: Block) -> Result<()> {
+    fn tell_chain(&mut self, bounds: Block, block: Block) -> fmt::Result {
         let source = block.narrow_source(bounds.source);
         let destination = source.block.narrow_destination(bounds.destination);
         let protocol = destination.block.narrow_protocol(bounds.protocol);
@@ -204,7 +209,7 @@ impl<W: Write> Session<W> {
     }
 
     // The widest block and the lowest packet.
-    fn tell_widest(&mut self) -> Result<()> {
+    fn tell_widest(&mut self) -> fmt::Result {
         let lowest = Packet::lowest();
         writeln!(
             self.output,

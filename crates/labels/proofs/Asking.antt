@@ -5,7 +5,7 @@ use mathlib.Core.Path.{◌≡◌, refl, sym, ap, ◌∙◌}
 use native.Mathlib.Numerals.{add-one}
 use native.Mathlib.Omega.{arith}
 use Prim.Native.Nat.{ℕ, zero, suc, ◌+◌, ◌≤◌, ◌<◌}
-use lib.ListN.{length, drop, get_or, drop_of_length-le}
+use lib.ListN.{length, drop, get_or}
 use Rattle.std.specs.Prelude.{Some}
 use Rattle.std.specs.Option.{is_some}
 use Rattle.meaning.specs.Blocks.{holds}
@@ -22,10 +22,10 @@ use Rattle.sets.specs.declared.Policy.{Policy}
 use Rattle.sets.specs.Empty.{zero_directive}
 use Rattle.sets.specs.Inner.{directives_of, exceptions_of}
 use Rattle.sets.specs.Vocabulary.{directive_of, policy_set_of}
+use Rattle.sets.proofs.Walks.{slice_next, slice_over}
 use Rattle.labels.specs.Answers.{number_told}
 use Rattle.labels.specs.Inner.{asked_by}
 use Rattle.labels.proofs.Marks.{excepted_among}
-use Rattle.labels.proofs.Records.{next}
 
 pub asked_by_number : (policy : policies.Policy) (a : rules.Action) (p : Packet)
     → policies.asked policy a p ≡ is_some (number_told (policies.lowest_asking policy a p))
@@ -81,17 +81,17 @@ module _ (ds : List Directive) (es : List Exception) (a : rules.Action) (p : Pac
 
     pub asking_here : asks ≡ true → asking_left i ≡ i + 1
     unfolding first_from directives_from number_of
-    asking_here e = ap (asking_from (i + 1)) (next directive_of ds i zero_directive there) ∙ simp (asked_here, e)
+    asking_here e = ap (asking_from (i + 1)) (slice_next directive_of ds i zero_directive there) ∙ simp (asked_here, e)
 
     pub asking_later : asks ≡ false → asking_left i ≡ asking_left (i + 1)
     unfolding first_from directives_from number_of
     asking_later e =
-        ap (asking_from (i + 1)) (next directive_of ds i zero_directive there)
+        ap (asking_from (i + 1)) (slice_next directive_of ds i zero_directive there)
         ∙ (simp (asked_here, e)) ∙ ap (λ (n : ℕ). asking_from n (map directive_of (drop (i + 1) ds))) (sym (add-one (i + 1)))
 
   pub asking_over : (i : ℕ) → length ds ≤ i → asking_left i ≡ 0
   unfolding first_from directives_from number_of
-  asking_over i h = ap (λ (left : List Directive). asking_from (i + 1) (map directive_of left)) (drop_of_length-le ds h)
+  asking_over i h = ap (asking_from (i + 1)) (slice_over directive_of ds i h)
 
 -- the directives within their count, as a slice holds them
 module _ (s : Policy) (a : rules.Action) (p : Packet) (ds : List Directive) (held : directives_of s ≡ map directive_of ds) where

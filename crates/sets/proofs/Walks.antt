@@ -1,4 +1,4 @@
--- A walk over the records within a count, record by record: what is left at i. One law for every kind of record.
+-- A walk over the records within a count, record by record, or over a slice of them: what is left at i. One law for every kind of record.
 -- Assumes nothing.
 use mathlib.Core.Bool.{Bool, true, false}
 use mathlib.Core.List.{List, [], ◌∷◌, map}
@@ -73,6 +73,14 @@ module _ {A B : Type 0} (f : A → B) (l : List A) (n : ℕ) where
     pub all_over : (i : ℕ) → min n (length l) ≤ i → all_of test (drop i (take n (map f l))) ≡ true
     unfolding all_of
     all_over i h = ap (all_of test) (over i h)
+
+-- the same of the records that a slice holds: a record is left, and none is left
+module _ {A B : Type 0} (f : A → B) (l : List A) (i : ℕ) where
+  pub slice_next : (d : A) → i < length l → map f (drop i l) ≡ f (get_or l i d) ∷ map f (drop (i + 1) l)
+  slice_next d there = ap (map f) (drop-cons l i d there ∙ (λ j. get_or l i d ∷ drop (sym (add-one i) j) l))
+
+  pub slice_over : length l ≤ i → map f (drop i l) ≡ []
+  slice_over past = ap (map f) (drop_of_length-le l past)
 
 -- what owning an array of records tells of its list
 pub length_of_map : (A B : Type 0) (f : A → B) (l : List A) (n : ℕ) → length (map f l) ≡ n → length l ≡ n

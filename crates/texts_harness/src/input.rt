@@ -1,60 +1,71 @@
 // The input as a stream of bytes. The other harness fills its buffer likewise, but takes whole lines; a crate for the few
 // lines that both have (this, `Shown`, blocks from numbers) would be no plainer.
 
-ghost use Rattle.std.specs.Prelude.{◌≤◌, vec_len};
+ghost use Rattle.std.specs.Prelude.{◌≡◌, ◌≤◌, length, IfOk, OnErr};
 
 use crate::requests::MOST_BYTES;
-use std::alloc::Global;
 use std::io::{Read, Result};
 
-// How many bytes are held at most.
-const ROOM: usize = 131_072;
-
-// What is read of the input and not taken yet: the buffer's bytes from start on. No `BufReader`: a request is lent whole from the buffer.
+// What is read of the input and not taken yet: the buffer's bytes from start up to end.
 #[derive(Drop)]
-pub(crate) struct Stream<R> {
+pub(crate) struct Stream<'a, R> {
     reader: R,
-    buffer: Vec<u8>,
+    buffer: &'a mut [u8],
     start: usize,
-    ghost within: { start ≤ vec_len buffer },
+    end: usize,
+    ghost ordered: { start ≤ end },
+    ghost within: { end ≤ length buffer.now },
 }
 
-impl<R: Read> Stream<R> {
-    // The bytes that a reader gives.
-    pub(crate) fn new(alloc: Global, reader: R) -> Result<Stream<R>>
-    where
-        R: Drop,
-    {
-        Ok(Stream {
+impl<'a, R: Read> Stream<'a, R> {
+    // The bytes that a reader gives, held in a buffer.
+    pub(crate) fn new(reader: R, buffer: &'a mut [u8]) -> Stream<'a, R> {
+        Stream {
             reader,
-            buffer: Vec::with_capacity(alloc, ROOM)?,
+            buffer,
             start: 0,
-        })
+            end: 0,
+        }
     }
 
     // The bytes that are read and not taken yet.
     pub(crate) fn unread(&self) -> &[u8] {
-        &self.buffer[self.start..]
+        &self.buffer[self.start..self.end]
     }
 
     // Takes bytes, so that only so many of those unread are left.
     pub(crate) fn keep(&mut self, left: usize) {
-        self.start = self.buffer.len().saturating_sub(left);
+        self.start = self.end.saturating_sub(left);
     }
 
     // Sees to it that the buffer has a whole request, if the input has one: where less than the longest is left, that moves to the
-    // start, and the room behind it is filled from the input. The one error is that of a read or of memory.
+    // start, and the room behind it is filled from the input. The one error is that of a read; other bytes may stand in the
+    // buffer then.
     pub(crate) fn refill(&mut self) -> Result<()> {
-        let left = self.buffer.len() - self.start;
+        let left = self.end - self.start;
         if left < MOST_BYTES {
-            self.buffer.drain(..self.start);
+            self.buffer.copy_within(self.start..self.end, 0);
             self.start = 0;
-            let room = (ROOM - left) as u64;
-            self.reader
-                .by_ref()
-                .take(room)
-                .read_to_end(&mut self.buffer)?;
+            self.end = left;
+            self.end += read_full(&mut self.reader, &mut self.buffer[left..])?;
         }
         Ok(())
     }
+}
+
+// Reads until the buffer is full or the input ends, and gives how many bytes were read. The one error is that of a read; other bytes
+// may stand in the buffer then.
+fn read_full(reader: &mut impl Read, buffer: &mut [u8]) -> Result<usize>
+    ensures ok { IfOk result (λ end. end ≤ length buffer.new) }
+    ensures err { OnErr result (length buffer.new ≡ length buffer.old) }
+{
+    let mut end: usize = 0;
+    while end < buffer.len() {
+        let more = reader.read(&mut buffer[end..])?;
+        if more == 0 {
+            break;
+        }
+        end += more;
+    }
+    Ok(end)
 }

@@ -6,6 +6,7 @@
 
 #![tactic(auto)]
 
+mod answer;
 mod answers;
 mod arguments;
 mod input;
@@ -19,15 +20,20 @@ use answers::Answers;
 use input::Stream;
 use requests::Request;
 use std::io;
-use std::io::{BufWriter, Result};
+use std::io::Result;
+
+// How many bytes are held at most, of the input and of an answer.
+const ROOM: usize = 131_072;
 
 // More requests than an input has; a bound, so that the program ends for every input.
 const MOST_REQUESTS: usize = 1_000_000;
 
 // Answers the requests on standard input in order.
 fn main(rt: HostRuntime) -> Result<()> {
-    let mut input = Stream::new(rt.alloc(), rt.reader())?;
-    let mut answers = Answers::new(BufWriter::new(rt.alloc(), io::writer(&rt))?);
+    let mut unread = [0; ROOM];
+    let mut answer = [0; ROOM];
+    let mut input = Stream::new(rt.reader(), &mut unread);
+    let mut answers = Answers::new(io::writer(&rt), &mut answer);
     for _ in 0..MOST_REQUESTS {
         input.refill()?;
         let Some((request, rest)) = Request::read(input.unread()) else {

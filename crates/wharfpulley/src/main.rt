@@ -4,7 +4,7 @@
 
 #![tactic(auto)]
 
-ghost use Rattle.std.specs.Prelude.{◌≡◌, ◌≤◌, length, IfOk, OnErr};
+ghost use Rattle.std.specs.Prelude.{◌≡◌, ◌≤◌, length, IfOk, IfSome, OnErr};
 
 use report::{MOST_OUTPUT, MOST_READ};
 use std::fs::File;
@@ -35,7 +35,9 @@ fn read_file<'a>(
     rt: &(impl Files + Eprint + Alloc),
     name: &str,
     buffer: &'a mut [u8],
-) -> Option<&'a [u8]> {
+) -> Option<&'a [u8]>
+    ensures { IfSome result (λ read. length read.now ≤ length buffer.old) }
+{
     match open_and_read(rt, name, buffer) {
         Ok(length) => Some(&buffer[..length]),
         Err(error) => {
