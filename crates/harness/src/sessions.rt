@@ -29,7 +29,7 @@ impl<W: io::Write> Session<W> {
 
     // Changes the sets or writes an answer, as a request asks.
     pub(crate) fn answer(&mut self, request: Request) -> io::Result<()> {
-        let _ = self.make_answer(request);
+        self.make_answer(request)?;
         self.output.send()
     }
 

@@ -31,7 +31,7 @@ use Rattle.sets.proofs.Padding.{padded_set, nothing_asked_lem}
 use Rattle.lines.specs.Reader.{line_at, line_from, cursor_after, cursor_behind}
 use Rattle.lines.specs.declared.Cursor.{Cursor}
 use Rattle.lines.proofs.Stepping.{found_bytes, found_after}
-use Rattle.texts.specs.Texts.{most_bytes, refusal, lines_of, Said, goes, stops, refused_alone, read_from, read_text}
+use Rattle.texts.specs.Texts.{most_bytes, refusal, lines_of, Said, goes, stops, all_read, read_before, read_from, read_text}
 use Rattle.texts.proofs.Reading.{Reading, begun, stepped, halted, finished, Alike, met}
 use Rattle.records.specs.Readers.{refused}
 use Rattle.records.specs.Records.{skipped, named, read_block, on_block, read_record, on_record}
@@ -267,13 +267,13 @@ said_alike s read line e =
     go (Err r) h = (refl, refl)
 
 -- the answer that hands back the policy alone
-abbrev pub policy_alone : Result PolicyRead Refusal → Result Policy Refusal
-policy_alone (Ok read) = Ok read.policy
-policy_alone (Err r) = Err r
+abbrev pub policy_alone : PolicyRead × Result (Unit {0}) Refusal → Result Policy Refusal
+policy_alone (read, Ok u) = Ok read.policy
+policy_alone (read, Err r) = Err r
 
-pub policy_met : (t : List ℕ) → read_policy t ≡ policy_alone (read_text line_said Ok refused_alone nothing_read t)
+pub policy_met : (t : List ℕ) → read_policy t ≡ policy_alone (read_text line_said all_read read_before nothing_read t)
 unfolding read_policy
 policy_met t =
-    met said_policy all_asked none_asked line_said Ok refused_alone Stands (λ (x : Result Policy Refusal) y. x ≡ policy_alone y)
+    met said_policy all_asked none_asked line_said all_read read_before Stands (λ (x : Result Policy Refusal) y. x ≡ policy_alone y)
     said_alike (λ s read e. ap (λ (x : PolicyRead). Ok x.policy) (sym e)) (λ s read r. refl)
     nothing_asked nothing_read t (ap (λ (x : Policy). record { policy = x; above = zero_block }) (sym nothing_asked_lem))

@@ -72,7 +72,8 @@ impl LineByLine for PolicyRead {
 pub fn read_policy(text: &[u8]) -> Result<Policy, Refusal>
     ensures { result ≡ read_policy text.now }
 {
-    let read: PolicyRead = texts::read_text(text)?;
+    let mut read = PolicyRead::nothing();
+    texts::read_text(text, &mut read)?;
     Ok(read.policy)
 }
 

@@ -25,7 +25,7 @@ use Rattle.sets.proofs.Padding.{padded_set, no_rules_lem}
 use Rattle.lines.specs.Reader.{line_at, line_from, cursor_after, cursor_behind}
 use Rattle.lines.specs.declared.Cursor.{Cursor}
 use Rattle.lines.proofs.Stepping.{found_bytes, found_after}
-use Rattle.texts.specs.Texts.{most_bytes, refusal, lines_of, Said, goes, stops, refused_alone, read_from, read_text}
+use Rattle.texts.specs.Texts.{most_bytes, refusal, lines_of, Said, goes, stops, all_read, read_before, read_from, read_text}
 use Rattle.texts.proofs.Reading.{Reading, begun, stepped, halted, finished, Alike, met}
 use Rattle.records.specs.Readers.{refused}
 use Rattle.records.specs.Records.{skipped, named, read_record, on_record}
@@ -142,13 +142,13 @@ said_alike rs read line e =
     go (Err r) h = (refl, refl)
 
 -- the answer that hands back the set alone
-abbrev pub set_alone : Result RulesRead Refusal → Result Rules Refusal
-set_alone (Ok read) = Ok read.rules
-set_alone (Err r) = Err r
+abbrev pub set_alone : RulesRead × Result (Unit {0}) Refusal → Result Rules Refusal
+set_alone (read, Ok u) = Ok read.rules
+set_alone (read, Err r) = Err r
 
-pub rules_met : (t : List ℕ) → read_rules t ≡ set_alone (read_text line_said Ok refused_alone no_rules_read t)
+pub rules_met : (t : List ℕ) → read_rules t ≡ set_alone (read_text line_said all_read read_before no_rules_read t)
 unfolding read_rules
 rules_met t =
-    met said_rule all_rules no_rules line_said Ok refused_alone Stands (λ (x : Result Rules Refusal) y. x ≡ set_alone y)
+    met said_rule all_rules no_rules line_said all_read read_before Stands (λ (x : Result Rules Refusal) y. x ≡ set_alone y)
     said_alike (λ rs read e. ap (λ (x : RulesRead). Ok x.rules) (sym e)) (λ rs read r. refl)
     [] no_rules_read t (ap (λ (x : Rules). record { rules = x }) (sym no_rules_lem))

@@ -50,7 +50,8 @@ impl LineByLine for RulesRead {
 pub fn read_rules(text: &[u8]) -> Result<Rules, Refusal>
     ensures { result ≡ read_rules text.now }
 {
-    let read: RulesRead = texts::read_text(text)?;
+    let mut read = RulesRead::nothing();
+    texts::read_text(text, &mut read)?;
     Ok(read.rules)
 }
 

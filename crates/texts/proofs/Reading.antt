@@ -22,7 +22,7 @@ use Rattle.lines.specs.Reader.{line_at, line_from, cursor_after, cursor_behind}
 use Rattle.lines.specs.declared.Cursor.{Cursor}
 use Rattle.lines.proofs.Stepping.{cursor_after_lem, found_bytes, found_after}
 use Rattle.texts.specs.Texts.{most_bytes, unended, refusal, refuse_text, lines_of, Said, goes, stops, on_said, on_text}
-use Rattle.texts.specs.Texts.{line_told, line_read, refused_alone, read_from, read_text}
+use Rattle.texts.specs.Texts.{line_told, line_read, all_read, read_before, read_from, read_text}
 
 -- a text that is not refused as a whole is not too long
 pub unrefused_fits : (t : List ℕ) → refuse_text t ≡ Ok tt → length t ≤ most_bytes
@@ -169,23 +169,26 @@ stayed n r (stops reason field) e =
 
 -- one turn of the loop: the call that reads the line found at the cursor answers o
 module _ {S : Type 0} (said : S → List ℕ → Said S) (nothing : (s : S) → said s [] ≡ goes s) (first : S) (text : Bor (List ℕ)) (c : Cursor) (s : S)
-    (h : Reading said Ok refused_alone first text.now c.at c.line s) (fits : length text.now ≤ most_bytes) (inside : c.at < length text.now)
+    (h : Reading said all_read read_before first text.now c.at c.line s) (fits : length text.now ≤ most_bytes) (inside : c.at < length text.now)
     (line : Bor (List ℕ)) (found : seen line ≡ shown text (line_from text.now c.at))
     (o : Result (Unit {0}) Refusal) (answer : o ≡ line_told c.line (said s line.now)) where
   there : said s (line_at text.now c.at) ≡ said s line.now
   there = ap (said s) (sym (found_bytes text line c found))
 
   pub line_went : o ≡ Ok tt → (s' : S) → s' ≡ line_read s (said s line.now) → (c' : Cursor) → c' ≡ cursor_behind c (length line.now)
-      → Reading said Ok refused_alone first text.now c'.at c'.line s'
+      → Reading said all_read read_before first text.now c'.at c'.line s'
   line_went e s' r c' q =
       let moved : c' ≡ cursor_after text.now c = found_after text line c found inside (omega arith) c' q in
       let says = there ∙ went c.line s s' (said s line.now) (sym e ∙ answer) r in
-      stepped said Ok refused_alone nothing first text.now c.at c.line s h fits inside c' moved s' says
+      stepped said all_read read_before nothing first text.now c.at c.line s h fits inside c' moved s' says
 
-  pub line_stopped : (r : Refusal) → o ≡ Err r → read_from said Ok refused_alone 1 first (lines_of text.now) ≡ Err r
-  line_stopped r e =
+  pub line_stopped : (r : Refusal) → o ≡ Err r → (s' : S) → s' ≡ line_read s (said s line.now)
+      → read_from said all_read read_before 1 first (lines_of text.now) ≡ (s', Err r)
+  line_stopped r e s' q =
       let stop = stayed c.line r (said s line.now) (sym e ∙ answer) in
-      halted said Ok refused_alone nothing first text.now c.at c.line s h inside r.reason r.field (there ∙ stop.0) ∙ ap Err (sym stop.1)
+      let same : s' ≡ s = q ∙ ap (line_read s) stop.0 in
+      halted said all_read read_before nothing first text.now c.at c.line s h inside r.reason r.field (there ∙ stop.0)
+      ∙ (λ i. (sym same i, Err (sym stop.1 i)))
 
 -- two kinds of line say the same, each by its own form of what is read: both go on, to what stands for one another, or both stop alike
 abbrev pub Alike : {S T : Type 0} → (S → T → Type 0) → Said S → Said T → Type 0

@@ -47,9 +47,13 @@ line_told n x = on_said x (λ s. Ok tt) (λ reason field. Err (refusal reason n 
 abbrev pub line_read : {S : Type 0} → S → Said S → S
 line_read s x = on_said x (λ s'. s') (λ reason field. s)
 
--- the answer to a refusal is that refusal, whatever was read before it
-abbrev pub refused_alone : {S : Type 0} → S → Refusal → Result S Refusal
-refused_alone s r = Err r
+-- all lines are read: what is read, and no refusal
+abbrev pub all_read : {S : Type 0} → S → S × Result (Unit {0}) Refusal
+all_read s = (s, Ok tt)
+
+-- what was read before a refusal, and that refusal
+abbrev pub read_before : {S : Type 0} → S → Refusal → S × Result (Unit {0}) Refusal
+read_before s r = (s, Err r)
 
 -- stop at what is refused of a text as a whole, or go on to its lines
 abbrev pub on_text : {R : Type 0} → Result (Unit {0}) Refusal → (Refusal → R) → R → R

@@ -5,8 +5,8 @@
 
 #![tactic(auto)]
 
-ghost use Rattle.std.specs.Prelude.{List, [], ℕ, Ok, ◌≡◌, ◌≤◌, length};
-ghost use Rattle.texts.specs.Texts.{most_bytes, unended, refuse_text, lines_of, Said, goes, line_told, line_read, refused_alone, read_from, read_text};
+ghost use Rattle.std.specs.Prelude.{List, [], ℕ, ◌≡◌, ◌≤◌, length};
+ghost use Rattle.texts.specs.Texts.{most_bytes, unended, refuse_text, lines_of, Said, goes, line_told, line_read, all_read, read_before, read_from, read_text};
 
 use lines::{Cursor, NEWLINE};
 use sets::{Reason, Refusal};
@@ -74,21 +74,23 @@ pub fn refuse_text(text: &[u8]) -> Result<(), Refusal>
     Ok(())
 }
 
-// What a text means: what is read of its lines, or the first refusal.
+// What a text means: what is read of its lines is in the lent place, whole or up to the first refusal. What stood there does not matter.
 #[tactic(auto, using(crate::proofs::Reading::unrefused_fits))]
-pub fn read_text<R: LineByLine>(text: &[u8]) -> Result<R, Refusal>
-    ensures { result ≡ read_text R.said Ok refused_alone R.none text.now }
+pub fn read_text<R: LineByLine>(text: &[u8], read: &mut R) -> Result<(), Refusal>
+    ensures { (read.new, result) ≡ read_text R.said all_read read_before R.none text.now }
 {
+    *read = R::nothing();
     refuse_text(text)?;
-    read_lines(text)
+    read_lines(text, read)
 }
 
 // The lines of a text, one after another, from cursor to cursor: the document says that reading carries text, next place and line number.
-fn read_lines<R: LineByLine>(text: &[u8]) -> Result<R, Refusal>
-    requires { length text.now ≤ most_bytes }
-    ensures { result ≡ read_from R.said Ok refused_alone 1 R.none (lines_of text.now) }
+fn read_lines<R: LineByLine>(text: &[u8], read: &mut R) -> Result<(), Refusal>
+    requires fits { length text.now ≤ most_bytes }
+    requires nothing { read.old ≡ R.none }
+    requires kept { R.kept read.old }
+    ensures { (read.new, result) ≡ read_from R.said all_read read_before 1 R.none (lines_of text.now) }
 {
-    let mut read = R::nothing();
     let mut cursor = Cursor { at: 0, line: 1 };
     while cursor.at < text.len() {
         let line = cursor.line;
@@ -96,5 +98,5 @@ fn read_lines<R: LineByLine>(text: &[u8]) -> Result<R, Refusal>
         cursor = lines::behind(cursor, found.len());
         read.read_line(found, line)?;
     }
-    Ok(read)
+    Ok(())
 }

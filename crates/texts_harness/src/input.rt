@@ -1,5 +1,5 @@
 // The input as a stream of bytes. The other harness fills its buffer likewise, but takes whole lines; a crate for the few
-// lines that both have (this, `Shown`, blocks from numbers) would be no plainer.
+// lines that both have (this, an answer's buffer, `Shown`, blocks from numbers) would be no plainer.
 
 ghost use Rattle.std.specs.Prelude.{◌≡◌, ◌≤◌, length, IfOk, OnErr};
 

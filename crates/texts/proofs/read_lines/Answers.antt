@@ -1,8 +1,8 @@
 use Rattle.std.proofs.Common.{rules}
 use mathlib.Core.Path.{◌≡◌, sym, subst, ◌∙◌}
 use native.Mathlib.Omega.{arith}
-use Rattle.std.specs.Prelude.{Ok, Err}
-use Rattle.texts.specs.Texts.{refused_alone}
+use Rattle.std.specs.Prelude.{Err}
+use Rattle.texts.specs.Texts.{all_read, read_before}
 use Rattle.texts.proofs.Reading.{Reading, begun, finished, line_went, line_stopped}
 use Rattle.texts.proofs.read_lines.Goals as goal
 
@@ -10,8 +10,8 @@ pub loop-cursor-init : goal.loop-cursor-init
 loop-cursor-init g c =
     let m = g.R.LineByLine in
     let text = c.args.text.now in (
-      subst (Reading m.said Ok refused_alone m.none text 0 1) (sym c.nothing-read.ensures.none) (begun m.said Ok refused_alone m.none text),
-      c.nothing-read.ensures.kept,
+      subst (Reading m.said all_read read_before m.none text 0 1) (sym c.requires.nothing) (begun m.said all_read read_before m.none text),
+      c.requires.kept,
     )
 
 pub read_line-requires : goal.read_line-requires
@@ -36,13 +36,13 @@ returns-in_err-read_line g c =
     let line = c.line_at-found in
     let read = c.read_line in
     let stop = line_stopped m.said g.met.R.LineByLine.says_nothing m.none c.args.text at.cursor at.read at.invariant.0 (omega arith) (omega arith)
-    line.result line.ensures read.result read.ensures.told c.in_err-read_line.field-0.0 c.in_err-read_line.was in
+    line.result line.ensures read.result read.ensures.told c.in_err-read_line.field-0.0 c.in_err-read_line.was read.new.self read.ensures.read in
     let told : c.from_residual.result ≡ Err c.in_err-read_line.field-0.0 = search rules in
-    told ∙ sym stop
+    (λ i. (read.new.self, told i)) ∙ sym stop
 
 pub returns : goal.returns
 returns g c =
     let m = g.R.LineByLine in
     let at = c.loop-cursor in
     let nothing = g.met.R.LineByLine.says_nothing in
-    sym (finished m.said Ok refused_alone nothing m.none c.args.text.now at.cursor.at at.cursor.line at.read at.invariant.0 (omega arith))
+    sym (finished m.said all_read read_before nothing m.none c.args.text.now at.cursor.at at.cursor.line at.read at.invariant.0 (omega arith))
